@@ -1,0 +1,110 @@
+-- Document 01's examples hold: one test that is computed over the table, and one law that turns it into the equations.
+use mathlib.Core.Path.{_≡_, refl, ap, ap₂}
+use mathlib.Core.Bool.{Bool, true, false, _&&_}
+use mathlib.Core.List.{List, [], _∷_}
+use Prim.Native.Nat.{ℕ}
+use lib.Dec.{T, eqb, eqb→eq}
+use lib.ListN.{length}
+use Rattle.definitions.specs.Words.{sameWord}
+use Rattle.definitions.specs.Answers.{Answer, given, refused, refusedAt, Result, after}
+use Rattle.definitions.specs.Codes.{codeOf}
+use Rattle.definitions.specs.Codewords.{syndromeEntry, syndrome, isCodeword}
+use Rattle.definitions.specs.Patterns.{patternsOf, patternCount}
+use Rattle.definitions.specs.Acceptance.{accepted}
+use Rattle.definitions.specs.Decoding.{sameSyndrome, fits, decode}
+use Rattle.definitions.specs.Messages.{symbolsFit, checkLevel, encode}
+use Rattle.definitions.specs.CodeOperations.{inRange, openCode, testCode, encodeCode, decodeCode}
+use Rattle.definitions.specs.StackCodewords.{acceptedStack}
+use Rattle.definitions.specs.StackDecoding.{firstWithSyndrome, decodePlanes, decodeWord}
+use Rattle.definitions.specs.StackOperations.{openPlane, openPlanes, openStack, testStack, decodeStack}
+use Rattle.definitions.specs.Circular.{decodeCircular}
+use Rattle.definitions.specs.Examples.{Example, opens, tests, testsStack, encodes, decodes, decodesStack, circular, patterns, Holds, AllHold, lent, R, F, S, H, K, G, table}
+use Rattle.definitions.proofs.Tests.{and-left, and-right, same-eq}
+
+-- equality of answers as a test, given one of what they give; and what it shows
+module _ {A : Type 0} (same : A → A → Bool) where
+  abbrev pub sameAnswer : Answer A → Answer A → Bool
+  sameAnswer (given a) (given b) = same a b
+  sameAnswer (given a) (refused k) = false
+  sameAnswer (given a) (refusedAt k j) = false
+  sameAnswer (refused k) (given a) = false
+  sameAnswer (refused k) (refused m) = eqb k m
+  sameAnswer (refused k) (refusedAt m j) = false
+  sameAnswer (refusedAt k i) (given a) = false
+  sameAnswer (refusedAt k i) (refused m) = false
+  sameAnswer (refusedAt k i) (refusedAt m j) = eqb k m && eqb i j
+
+  abbrev pub sameResult : Result A → Result A → Bool
+  sameResult a b = sameAnswer (a .answer) (b .answer) && sameWord (a .out) (b .out)
+
+  module _ (equal : (a b : A) → T (same a b) → a ≡ b) where
+    answers-eq : (a b : Answer A) → T (sameAnswer a b) → a ≡ b
+    answers-eq (given a) (given b) h = ap {B = Answer A} given (equal a b h)
+    answers-eq (given a) (refused k) h = absurd h
+    answers-eq (given a) (refusedAt k j) h = absurd h
+    answers-eq (refused k) (given a) h = absurd h
+    answers-eq (refused k) (refused m) h = ap {B = Answer A} refused (eqb→eq k m h)
+    answers-eq (refused k) (refusedAt m j) h = absurd h
+    answers-eq (refusedAt k i) (given a) h = absurd h
+    answers-eq (refusedAt k i) (refused m) h = absurd h
+    answers-eq (refusedAt k i) (refusedAt m j) h =
+        ap₂ {C = Answer A} refusedAt (eqb→eq k m (and-left (eqb k m) (eqb i j) h)) (eqb→eq i j (and-right (eqb k m) (eqb i j) h))
+
+    results-eq : (a b : Result A) → T (sameResult a b) → a ≡ b
+    results-eq a b h =
+        ap₂ {C = Result A} (λ x y. record { answer = x; out = y })
+        (answers-eq (a .answer) (b .answer) (and-left (sameAnswer (a .answer) (b .answer)) (sameWord (a .out) (b .out)) h))
+        (same-eq (a .out) (b .out) (and-right (sameAnswer (a .answer) (b .answer)) (sameWord (a .out) (b .out)) h))
+
+abbrev anyUnit : Unit {0} → Unit {0} → Bool
+anyUnit a b = true
+
+units-eq : (a b : Unit {0}) → T (anyUnit a b) → a ≡ b
+units-eq a b h = refl
+
+abbrev samePair : ℕ × List ℕ → ℕ × List ℕ → Bool
+samePair a b = eqb (a .0) (b .0) && sameWord (a .1) (b .1)
+
+pairs-eq : (a b : ℕ × List ℕ) → T (samePair a b) → a ≡ b
+pairs-eq a b h =
+    ap₂ {C = ℕ × List ℕ} (λ x y. (x, y)) (eqb→eq (a .0) (b .0) (and-left (eqb (a .0) (b .0)) (sameWord (a .1) (b .1)) h))
+    (same-eq (a .1) (b .1) (and-right (eqb (a .0) (b .0)) (sameWord (a .1) (b .1)) h))
+
+abbrev holds : Example → Bool
+holds (opens b a) = sameAnswer anyUnit (after (openCode b) (λ p. given tt)) a
+holds (tests b a) = sameAnswer anyUnit (testCode b) a
+holds (testsStack b a) = sameAnswer anyUnit (testStack b) a
+holds (encodes b s r) = sameResult anyUnit (encodeCode b s (lent (length s))) r
+holds (decodes b y r) = sameResult eqb (decodeCode b y (lent (length y))) r
+holds (decodesStack b y r) = sameResult eqb (decodeStack b y (lent (length y))) r
+holds (circular b y a) = sameAnswer samePair (decodeCircular (codeOf b) y) a
+holds (patterns b k) = eqb (length (patternsOf (codeOf b))) k
+
+shown : (x : Example) → T (holds x) → Holds x
+shown (opens b a) h = answers-eq anyUnit units-eq (after (openCode b) (λ p. given tt)) a h
+shown (tests b a) h = answers-eq anyUnit units-eq (testCode b) a h
+shown (testsStack b a) h = answers-eq anyUnit units-eq (testStack b) a h
+shown (encodes b s r) h = results-eq anyUnit units-eq (encodeCode b s (lent (length s))) r h
+shown (decodes b y r) h = results-eq eqb eqb→eq (decodeCode b y (lent (length y))) r h
+shown (decodesStack b y r) h = results-eq eqb eqb→eq (decodeStack b y (lent (length y))) r h
+shown (circular b y a) h = answers-eq samePair pairs-eq (decodeCircular (codeOf b) y) a h
+shown (patterns b k) h = eqb→eq (length (patternsOf (codeOf b))) k h
+
+abbrev allHold : List Example → Bool
+allHold [] = true
+allHold (x ∷ xs) = holds x && allHold xs
+
+all-shown : (xs : List Example) → T (allHold xs) → AllHold xs
+all-shown [] h = tt
+all-shown (x ∷ xs) h = (shown x (and-left (holds x) (allHold xs) h), all-shown xs (and-right (holds x) (allHold xs) h))
+
+computed : T (allHold table)
+unfolding
+    table R F S H K G
+    syndromeEntry syndrome isCodeword patternsOf patternCount accepted sameSyndrome fits decode symbolsFit checkLevel encode
+    inRange openCode testCode encodeCode decodeCode
+    acceptedStack firstWithSyndrome decodePlanes decodeWord openPlane openPlanes openStack testStack decodeStack decodeCircular
+computed = tt
+
+pub examples : AllHold table
+examples = all-shown table computed
