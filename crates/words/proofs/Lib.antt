@@ -1,3 +1,4 @@
 pub mod Cells
 pub mod Remainders
 pub mod Lists
+pub mod PatternList
