@@ -36,6 +36,13 @@ pub record Tested (Accepted : Type 0) (answer : Answer (Unit {0})) : Type 0 wher
   pub fit : (answer ≡ given tt) ↔ Accepted
   pub unfit : (answer ≡ refused 6) ↔ (Accepted → ⊥)
 
+-- demand 2, of the definitions: messages and codewords correspond one to one
+pub record OneToOne (K : Coding) : Type 0 where
+  pub codeword : (s : List ℕ) → K .isMessage s → K .codeword (K .encoded s)
+  pub carries : (s : List ℕ) → K .isMessage s → K .carried (K .encoded s) ≡ s
+  pub isMessage : (c : List ℕ) → K .codeword c → K .isMessage (K .carried c)
+  pub again : (c : List ℕ) → K .codeword c → K .encoded (K .carried c) ≡ c
+
 -- demand 2, of writing the message s: "what is written is the one codeword that carries the message"
 pub record OneCodeword (K : Coding) (s : List ℕ) (answer : Answer (Unit {0})) (out : List ℕ) : Type 0 where
   pub written : answer ≡ given tt

@@ -2,3 +2,4 @@ pub mod Cells
 pub mod Remainders
 pub mod Lists
 pub mod PatternList
+pub mod Subtraction

@@ -1,0 +1,5 @@
+pub mod Syndromes
+pub mod Codewords
+pub mod Acceptance
+pub mod Deciding
+pub mod Decoding

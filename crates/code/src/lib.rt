@@ -1,0 +1,1 @@
+// Theorems about codes, from document 01's definitions: see proofs/. There is no code here.
