@@ -3,3 +3,7 @@ pub mod Codewords
 pub mod Acceptance
 pub mod Deciding
 pub mod Decoding
+pub mod Messages
+pub mod Refusals
+pub mod Opened
+pub mod Demands
