@@ -7,3 +7,6 @@ pub mod Messages
 pub mod Refusals
 pub mod Opened
 pub mod Demands
+pub mod Circular
+pub mod Divides
+pub mod Shams
