@@ -40,7 +40,6 @@ module _ (K : Coding) (y : List ℕ) (d : Decoded)
     (only : (k : ℕ) (c : List ℕ) → d ≡ given (k, c) → WithinReach K y c × (k ≡ distance c y))
     (other : ((c : List ℕ) → WithinReach K y c → ⊥) → number d ≡ some 11)
     (out : List ℕ) where
-
   exactly-when : ((c : List ℕ) → WithinReach K y c → (k : ℕ) × (x : List ℕ) × (d ≡ given (k, x)))
       → ((k : ℕ) × (result d out .answer ≡ given k)) ↔ ((c : List ℕ) × WithinReach K y c)
   exactly-when some-back = (

@@ -52,9 +52,13 @@ module _ (b : List ℕ) (p : Code) (opens : openCode b ≡ given p) where
   encodes : (s out : List ℕ) → Message p s → length out ≡ p .n → encodeCode b s out ≡ record { answer = given tt; out = encode p s }
   unfolding encodeCode symbolsFit
   encodes s out m lo =
-      rw (opens, eq-eqb (length s) (p .n) (m .long), eq-eqb (length out) (p .n) lo,
+      rw (
+        opens,
+        eq-eqb (length s) (p .n) (m .long),
+        eq-eqb (length out) (p .n) lo,
         is-true (allBelow (p .q) (take (dataCells p) s)) (each-below (p .q) (take (dataCells p) s) (m .levels)),
-        is-true (allBelow (p .q / p .M) (drop (dataCells p) s)) (each-below (p .q / p .M) (drop (dataCells p) s) (m .checks)))
+        is-true (allBelow (p .q / p .M) (drop (dataCells p) s)) (each-below (p .q / p .M) (drop (dataCells p) s) (m .checks)),
+      )
 
   pub encode-demand : (s out : List ℕ) → Message p s → length out ≡ p .n → OneCodeword (ofCode p) s (encodeCode b s out .answer) (encodeCode b s out .out)
   encode-demand s out m lo =
@@ -64,8 +68,13 @@ module _ (b : List ℕ) (p : Code) (opens : openCode b ≡ given p) where
   recovers : (c out : List ℕ) → Codeword p c → length out ≡ p .n → recoverCode b c out ≡ record { answer = given tt; out = message p c }
   unfolding recoverCode
   recovers c out h lo =
-      rw (opens, eq-eqb (length c) (p .n) (h .long), eq-eqb (length out) (p .n) lo,
-        is-true (allBelow (p .q) c) (each-below (p .q) c (h .levels)), is-true (isCodeword p c) (codeword-test p c h))
+      rw (
+        opens,
+        eq-eqb (length c) (p .n) (h .long),
+        eq-eqb (length out) (p .n) lo,
+        is-true (allBelow (p .q) c) (each-below (p .q) c (h .levels)),
+        is-true (isCodeword p c) (codeword-test p c h),
+      )
 
   pub recover-demand : (c out : List ℕ) → Codeword p c → length out ≡ p .n → Recovered (ofCode p) c (recoverCode b c out .answer) (recoverCode b c out .out)
   recover-demand c out h lo =

@@ -67,12 +67,16 @@ module _ (p : Code) (pos : 0 < p .M) where
     pub construction-1 : (c : List ℕ) → Codeword p c ↔ ((length c ≡ p .n) × EachCell (λ v. v < p .q) c × Codeword (overM p) (modulo (p .M) c))
     unfolding syndromeEntry
     construction-1 c = (
-      (λ h. (h .long, h .levels, record {
-        long = length-map c (λ v. v % p .M) ∙ h .long;
-        levels = small;
-        checks = subst (λ (b : ℕ). EachCell (λ v. v < b) (drop (dataCells p) (modulo (p .M) c))) (sym whole) (each-drop (λ v. v < p .M) (dataCells p) (modulo (p .M) c) small);
-        zero = λ k g. syndrome-modulo c k ∙ h .zero k g;
-      })),
+      (λ h. (
+        h .long,
+        h .levels,
+        record {
+          long = length-map c (λ v. v % p .M) ∙ h .long;
+          levels = small;
+          checks = subst (λ (b : ℕ). EachCell (λ v. v < b) (drop (dataCells p) (modulo (p .M) c))) (sym whole) (each-drop (λ v. v < p .M) (dataCells p) (modulo (p .M) c) small);
+          zero = λ k g. syndrome-modulo c k ∙ h .zero k g;
+        },
+      )),
       (λ h. null-space c .1 (record { long = h .0; levels = h .1; zero = λ k g. sym (syndrome-modulo c k) ∙ h .2 .zero k g })),
     )
       where

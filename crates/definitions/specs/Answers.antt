@@ -16,7 +16,6 @@ pub record Result (A : Type 0) : Type 0 where
   pub out : List ℕ
 
 infixr 5 refuse_when_else_
-
 module _ {A : Type 0} where
   -- the refusals of an operation stand in document 01's order: the first whose case holds is returned
   abbrev pub refuse_when_else_ : ℕ → Bool → Answer A → Answer A
