@@ -22,7 +22,7 @@ abbrev pub pair : ℕ → List ℕ → Decoded
 pair k x = given (k, x)
 
 -- a decoder's answer in the two forms: with the levels, and apart from them
-result-given : (d : Decoded) (out : List ℕ) (k : ℕ) → result d out .answer ≡ given k → d ≡ given (k, result d out .out)
+pub result-given : (d : Decoded) (out : List ℕ) (k : ℕ) → result d out .answer ≡ given k → d ≡ given (k, result d out .out)
 result-given (given w) out k e = let s : w .0 ≡ k = cc in ap (λ (u : ℕ). pair u (w .1)) s
 result-given (refused i) out k e = let z : _≡_ {A = ℕ} 0 1 = cc in absurd (omega arith)
 result-given (refusedAt i j) out k e = let z : _≡_ {A = ℕ} 0 1 = cc in absurd (omega arith)

@@ -40,7 +40,7 @@ tested-by false P f g = record {
 
 module _ (b : List ℕ) (p : Code) (opens : openCode b ≡ given p) where
   one-to-one : OneToOne (ofCode p)
-  one-to-one = let (_, h) = opened b p opens in messages-codewords p (omega (arith, h .r-below)) (omega (arith, h .M-low))
+  one-to-one = let (_, h) = opened b p opens in messages-codewords p (omega (arith, h .range .r-below)) (omega (arith, h .range .m-low))
 
   -- demand 1, of the test
   pub test-demand : Tested (Accepted p) (testCode b)

@@ -27,6 +27,11 @@ refusalNumber LevelTooLarge = 10
 refusalNumber NoCodewordInReach = 11
 refusalNumber NotACodeword = 12
 
+-- the refusal of a description that did not open; of one that opened there is none, and the first stands in
+abbrev pub refusalOf : Opened → Refusal
+refusalOf (Refused x) = x
+refusalOf (Open p) = TooShort
+
 -- the code with these parameters and this matrix
 abbrev pub codeWith : Parameters → List ℕ → Code
 codeWith p A = record { n = p .n; r = p .r; q = p .q; M = p .m; l = p .l; t = p .t; A = A }
