@@ -1,0 +1,106 @@
+// The syndrome of a word, and what it is made of: sums of products along a row of the matrix, and the entries of a cell's column.
+use opening::Parameters;
+
+ghost use mathlib.Core.Path.{_≡_};
+ghost use mathlib.Core.Bool.{Bool};
+ghost use Prim.Native.Nat.{ℕ, _+_, _*_, _/_, _<_, _≤_};
+ghost use lib.ListN.{length};
+ghost use Rattle.definitions.specs.Words.{at, sumTo, allZero};
+ghost use Rattle.definitions.specs.Codewords.{syndromeEntry, syndrome};
+ghost use Rattle.opening.specs.Opening.{codeWith, Ready};
+ghost use Rattle.syndrome.specs.Columns.{column, Syndrome};
+
+fn product(x: u8, y: u8) -> usize
+    ensures { λ r. ⌜ (r ≡ x * y) × (r ≤ 65025) ⌝ }
+{
+    (x as usize) * (y as usize)
+}
+
+pub fn times(a: usize, b: usize) -> usize
+    requires { ⌜ (a ≤ 64) × (b ≤ 64) ⌝ }
+    ensures { λ r. ⌜ (r ≡ a * b) × (r ≤ 4096) ⌝ }
+{
+    a * b
+}
+
+pub fn ceiling(q: usize, m: usize) -> usize
+    requires { ⌜ 0 < m ⌝ }
+    ensures { λ r. ⌜ (r ≡ m * (q / m)) × (r ≤ q) ⌝ }
+{
+    m * (q / m)
+}
+
+// The products of a row's entries, from `base` on, and the first w levels, added up.
+pub fn row_sum(matrix: &[u8], word: &[u8], base: usize, w: usize) -> usize
+    requires { ⌜ (w ≤ 64) × (w ≤ length (now word)) × (base + w ≤ length (now matrix)) ⌝ }
+    ensures { λ r. ⌜ (r ≡ sumTo w (λ j. at (now (matrix .entry)) (base + j) * at (now (word .entry)) j)) × (r ≤ 4161600) ⌝ }
+{
+    let mut sum = 0;
+    let mut j = 0;
+    while j < w {
+        let i = base + j;
+        sum += product(matrix[i], word[j]);
+        j += 1;
+    }
+    sum
+}
+
+pub fn syndrome_entry(matrix: &[u8], p: Parameters, word: &[u8], i: usize) -> usize
+    requires ready { ⌜ Ready p (now matrix) ⌝ }
+    requires sizes { ⌜ (length (now word) ≡ p .n) × (i < p .r) ⌝ }
+    ensures { λ e. ⌜ e ≡ syndromeEntry (codeWith p (now (matrix .entry))) (now (word .entry)) i ⌝ }
+{
+    let n = p.n;
+    let r = p.r;
+    let m = p.m;
+    let w = n - r;
+    let sum = row_sum(matrix, word, i * w, w);
+    let at = w + i;
+    (sum + opening::wide(word[at])) % m
+}
+
+pub fn syndrome(matrix: &[u8], p: Parameters, word: &[u8]) -> [usize; 12]
+    requires ready { ⌜ Ready p (now matrix) ⌝ }
+    requires long { ⌜ length (now word) ≡ p .n ⌝ }
+    ensures { λ s. ⌜ Syndrome (codeWith p (now (matrix .entry))) (now (word .entry)) s ⌝ }
+{
+    let r = p.r;
+    let mut s = [0usize; 12];
+    let mut i = 0;
+    while i < r {
+        s[i] = syndrome_entry(matrix, p, word, i);
+        i += 1;
+    }
+    s
+}
+
+pub fn entry(matrix: &[u8], p: Parameters, i: usize, cell: usize) -> usize
+    requires ready { ⌜ Ready p (now matrix) ⌝ }
+    requires row { ⌜ i < p .r ⌝ }
+    ensures { λ e. ⌜ (e ≡ column (codeWith p (now (matrix .entry))) i cell) × (e < p .m) ⌝ }
+{
+    let n = p.n;
+    let r = p.r;
+    let w = n - r;
+    if cell < w {
+        return opening::wide(matrix[i * w + cell]);
+    }
+    if cell == w + i { 1 } else { 0 }
+}
+
+// Whether all r entries of the word's syndrome are 0.
+pub fn has_zero_syndrome(matrix: &[u8], p: Parameters, word: &[u8]) -> bool
+    requires ready { ⌜ Ready p (now matrix) ⌝ }
+    requires long { ⌜ length (now word) ≡ p .n ⌝ }
+    ensures { λ b. ⌜ b ≡ allZero (syndrome (codeWith p (now (matrix .entry))) (now (word .entry))) ⌝ }
+{
+    let r = p.r;
+    let mut i = 0;
+    while i < r {
+        if syndrome_entry(matrix, p, word, i) != 0 {
+            return false;
+        }
+        i += 1;
+    }
+    true
+}
