@@ -61,15 +61,15 @@ module _ (p : Code) (hr : p .r ≤ p .n) (hM : 0 < p .M) where
     check-at : (k : ℕ) → k < p .r → at checks k ≡ checkLevel p s k
     check-at k h = at-upFrom (checkLevel p s) 0 (p .r) k h ∙ ap (checkLevel p s) (zero-add k)
 
-    encode-long : length (encode p s) ≡ p .n
+    pub encode-long : length (encode p s) ≡ p .n
     unfolding encode
     encode-long = parts-long (p .n) w (take w s) checks front (omega arith) checks-long
 
-    encode-front : (j : ℕ) → j < w → at (encode p s) j ≡ at s j
+    pub encode-front : (j : ℕ) → j < w → at (encode p s) j ≡ at s j
     unfolding encode
     encode-front j h = parts-front (p .n) w (take w s) checks front (omega arith) checks-long j h ∙ getD-take w s j 0 h
 
-    encode-check : (k : ℕ) → k < p .r → at (encode p s) (w + k) ≡ checkLevel p s k
+    pub encode-check : (k : ℕ) → k < p .r → at (encode p s) (w + k) ≡ checkLevel p s k
     unfolding encode
     encode-check k h = parts-check (p .n) w (take w s) checks front (omega arith) checks-long k ∙ check-at k h
 
@@ -80,7 +80,7 @@ module _ (p : Code) (hr : p .r ≤ p .n) (hM : 0 < p .M) where
         ∙ fills (p .M) (total k s) (at s (w + k)) hM
 
     module _ (m : Message p s) where
-      check-small : (k : ℕ) → k < p .r → checkLevel p s k < ceiling p
+      pub check-small : (k : ℕ) → k < p .r → checkLevel p s k < ceiling p
       unfolding checkLevel
       check-small k h =
           let b : at s (w + k) < p .q / p .M
@@ -126,61 +126,65 @@ module _ (p : Code) (hr : p .r ≤ p .n) (hM : 0 < p .M) where
             ∙ ap (λ (u : ℕ). at s (w + k) + u) (div-eq-of-lt (mod-lt _ hM)) ∙ add-zero _
             ∙ sym (getD-drop w s k 0)
 
-  -- a codeword is what its message is encoded as
-  module _ (c : List ℕ) (hc : Codeword p c) where
+  -- the message that a word carries, cell by cell
+  module _ (c : List ℕ) (long : length c ≡ p .n) where
     front-c : length (take w c) ≡ w
-    front-c = length-take-le w c (omega (arith, hc .long))
+    front-c = length-take-le w c (omega arith)
 
     abbrev symbols : List ℕ
     symbols = map (λ v. v / p .M) (drop w c)
 
     symbols-long : length symbols ≡ p .n - w
-    symbols-long = length-map (drop w c) (λ v. v / p .M) ∙ omega (arith, length-drop w c, hc .long)
+    symbols-long = length-map (drop w c) (λ v. v / p .M) ∙ omega (arith, length-drop w c)
 
     symbol-at : (k : ℕ) → k < p .r → at symbols k ≡ at c (w + k) / p .M
-    symbol-at k h =
-        at-map (λ v. v / p .M) (drop w c) k (omega (arith, length-drop w c, hc .long)) ∙ ap (λ (u : ℕ). u / p .M) (getD-drop w c k 0)
+    symbol-at k h = at-map (λ v. v / p .M) (drop w c) k (omega (arith, length-drop w c)) ∙ ap (λ (u : ℕ). u / p .M) (getD-drop w c k 0)
 
-    message-long : length (message p c) ≡ p .n
+    pub message-long : length (message p c) ≡ p .n
     unfolding message
     message-long = parts-long (p .n) w (take w c) symbols front-c (omega arith) symbols-long
 
-    message-front : (j : ℕ) → j < w → at (message p c) j ≡ at c j
+    pub message-front : (j : ℕ) → j < w → at (message p c) j ≡ at c j
     unfolding message
     message-front j h = parts-front (p .n) w (take w c) symbols front-c (omega arith) symbols-long j h ∙ getD-take w c j 0 h
 
-    message-check : (k : ℕ) → k < p .r → at (message p c) (w + k) ≡ at c (w + k) / p .M
+    pub message-check : (k : ℕ) → k < p .r → at (message p c) (w + k) ≡ at c (w + k) / p .M
     unfolding message
     message-check k h = parts-check (p .n) w (take w c) symbols front-c (omega arith) symbols-long k ∙ symbol-at k h
 
-    message-message : Message p (message p c)
-    unfolding message
-    message-message = record {
-      long = message-long;
-      levels = subst (EachCell (λ v. v < p .q)) (sym (take-at (take w c) symbols w front-c)) (each-take (λ v. v < p .q) w c (hc .levels));
-      checks = subst (EachCell (λ v. v < p .q / p .M)) (sym (drop-at (take w c) symbols w front-c))
-          (at-each (λ v. v < p .q / p .M) symbols (λ k h.
-          let g : k < p .r = omega (arith, symbols-long) in
-          let b : at (drop w c) k < p .M * (p .q / p .M) = each-at (λ v. v < ceiling p) (drop w c) (hc .checks) k (omega (arith, length-drop w c, hc .long)) in
-          subst (λ (u : ℕ). u < p .q / p .M) (sym (symbol-at k g)) (div-lt-iff-lt-mul hM .1 (subst (λ (u : ℕ). at c (w + k) < u) (mul-comm (p .M) (p .q / p .M)) (subst (λ (u : ℕ). u < p .M * (p .q / p .M)) (getD-drop w c k 0) b)))));
-    }
+    -- a codeword is what its message is encoded as
+    module _ (hc : Codeword p c) where
+      message-message : Message p (message p c)
+      unfolding message
+      message-message = record {
+        long = message-long;
+        levels = subst (EachCell (λ v. v < p .q)) (sym (take-at (take w c) symbols w front-c)) (each-take (λ v. v < p .q) w c (hc .levels));
+        checks = subst (EachCell (λ v. v < p .q / p .M)) (sym (drop-at (take w c) symbols w front-c))
+            (at-each (λ v. v < p .q / p .M) symbols (λ k h. symbol-small k (omega (arith, symbols-long))));
+      }
+        where
+          symbol-small : (k : ℕ) → k < p .r → at symbols k < p .q / p .M
+          symbol-small k g =
+              let b : at (drop w c) k < ceiling p = each-at (λ v. v < ceiling p) (drop w c) (hc .checks) k (omega (arith, length-drop w c)) in
+              let e : at c (w + k) < p .q / p .M * p .M = subst (λ (u : ℕ). at c (w + k) < u) (mul-comm (p .M) (p .q / p .M)) (subst (λ (u : ℕ). u < ceiling p) (getD-drop w c k 0) b) in
+              subst (λ (u : ℕ). u < p .q / p .M) (sym (symbol-at k g)) (div-lt-iff-lt-mul hM .1 e)
 
-    check-back : (k : ℕ) → k < p .r → checkLevel p (message p c) k ≡ at c (w + k)
-    unfolding checkLevel syndromeEntry
-    check-back k h =
-        ap₂ (λ (a b : ℕ). p .M * a + (p .M - b % p .M) % p .M) (message-check k h) (total-same k (message p c) c message-front)
-        ∙ ap (λ (u : ℕ). p .M * (at c (w + k) / p .M) + u) (filled (p .M) (total k c) (at c (w + k)) hM (hc .zero k h))
-        ∙ div-add-mod (at c (w + k)) (p .M)
+      check-back : (k : ℕ) → k < p .r → checkLevel p (message p c) k ≡ at c (w + k)
+      unfolding checkLevel syndromeEntry
+      check-back k h =
+          ap₂ (λ (a b : ℕ). p .M * a + (p .M - b % p .M) % p .M) (message-check k h) (total-same k (message p c) c message-front)
+          ∙ ap (λ (u : ℕ). p .M * (at c (w + k) / p .M) + u) (filled (p .M) (total k c) (at c (w + k)) hM (hc .zero k h))
+          ∙ div-add-mod (at c (w + k)) (p .M)
 
-    encode-message : encode p (message p c) ≡ c
-    encode-message = parts-equal (p .n) w (p .r) (encode p (message p c)) c (omega arith) (encode-long (message p c) message-long) (hc .long)
-        (λ j g. encode-front (message p c) message-long j g ∙ message-front j g)
-        (λ k h. encode-check (message p c) message-long k h ∙ check-back k h)
+      encode-message : encode p (message p c) ≡ c
+      encode-message = parts-equal (p .n) w (p .r) (encode p (message p c)) c (omega arith) (encode-long (message p c) message-long) long
+          (λ j g. encode-front (message p c) message-long j g ∙ message-front j g)
+          (λ k h. encode-check (message p c) message-long k h ∙ check-back k h)
 
   pub messages-codewords : OneToOne (ofCode p)
   messages-codewords = record {
     codeword = λ s m. encode-codeword s (m .long) m;
     carries = λ s m. message-encode s (m .long);
-    isMessage = message-message;
-    again = encode-message;
+    isMessage = λ c h. message-message c (h .long) h;
+    again = λ c h. encode-message c (h .long) h;
   }
