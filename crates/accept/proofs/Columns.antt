@@ -1,0 +1,70 @@
+-- Entries of the matrix, and sums of two entries modulo M.
+use mathlib.Core.Path.{_≡_, sym, _∙_}
+use mathlib.Core.List.{List, [], _∷_}
+use Prim.Native.Nat.{ℕ, zero, suc, _+_, _*_, _-_, _%_, _≤_, _<_}
+use native.Mathlib.Nat.{suc-mul, mul-le-mul, mul-le-mul-right, mod-eq-of-lt, mod-eq-sub-mod}
+use native.Mathlib.Decide.{decLt}
+use native.Mathlib.Omega.{arith}
+use lib.ListN.{length, set}
+use lib.Seq.{getD-set-same, getD-set-other}
+use borrow.Author.Tests.{lt-ltb, le-ltb, eq-eqb, ne-eqb}
+use Rattle.definitions.specs.Words.{at, EachCell}
+use Rattle.opening.specs.Opening.{codeWith, Ready}
+use Rattle.opening.specs.declared.Parameters.{Parameters}
+use Rattle.words.proofs.Cells.{each-at}
+use Rattle.accept.specs.Listing.{columnEntry}
+
+-- row k, column j of a matrix of r rows and w columns
+row-lt : (k r j w : ℕ) → k < r → j < w → k * w + j < r * w
+row-lt k r j w hk hj = let h : suc k * w ≤ r * w = mul-le-mul-right w hk in omega (arith, suc-mul k w)
+
+module _ (p : Parameters) (A : List ℕ) (ready : Ready p A) (cell k : ℕ) where
+  pub past : p .r ≤ k → (0 ≡ columnEntry (codeWith p A) cell k) × (0 < p .m)
+  past h = (rw (le-ltb _ _ h), omega (arith, ready .m-low))
+
+  module _ (hk : k < p .r) where
+    pub within : cell < p .n - p .r → k * (p .n - p .r) + cell < length A
+    within h = omega (arith, row-lt k (p .r) cell (p .n - p .r) hk h, ready .matrix)
+
+    pub small : cell < p .n - p .r → k * (p .n - p .r) + cell ≤ 768
+    small h =
+        let a : k ≤ 11 = omega (arith, ready .r-high) in
+        let b : p .n - p .r ≤ 64 = omega (arith, ready .n-high) in
+        let m : k * (p .n - p .r) ≤ 11 * 64 = mul-le-mul a b in
+        omega arith
+
+    pub of-matrix : cell < p .n - p .r → (at A (k * (p .n - p .r) + cell) ≡ columnEntry (codeWith p A) cell k) × (at A (k * (p .n - p .r) + cell) < p .m)
+    of-matrix h = (rw (lt-ltb _ _ hk, lt-ltb _ _ h), each-at (λ v. v < p .m) A (ready .entries) _ (within h))
+
+    pub of-check : p .n - p .r ≤ cell → cell ≡ (p .n - p .r) + k → (1 ≡ columnEntry (codeWith p A) cell k) × (1 < p .m)
+    of-check h e = (rw (lt-ltb _ _ hk, le-ltb _ _ h, eq-eqb _ _ e), omega (arith, ready .m-low))
+
+    pub of-other : p .n - p .r ≤ cell → (cell ≡ (p .n - p .r) + k → ⊥) → (0 ≡ columnEntry (codeWith p A) cell k) × (0 < p .m)
+    of-other h e = (rw (lt-ltb _ _ hk, le-ltb _ _ h, ne-eqb _ _ e), omega (arith, ready .m-low))
+
+pub sum-below : (v a b m : ℕ) → v ≡ a + b → v < m → v ≡ (a + b) % m
+sum-below v a b m e h = let g : a + b < m = omega arith in e ∙ sym (mod-eq-of-lt g)
+
+pub sum-above : (v a b m : ℕ) → v ≡ a + b → m ≤ v → a < m → b < m → v - m ≡ (a + b) % m
+sum-above v a b m e h ha hb =
+    let f : (a + b) % m ≡ (a + b - m) % m = mod-eq-sub-mod (omega arith) in
+    let g : (a + b - m) % m ≡ a + b - m = mod-eq-of-lt (omega arith) in
+    omega arith
+
+-- one entry more of a table
+pub each-set : (P : ℕ → Type 0) (x : List ℕ) (i v : ℕ) → EachCell P x → P v → EachCell P (set x i v)
+each-set P [] i v h g = tt
+each-set P (a ∷ x) zero v h g = (g, h .1)
+each-set P (a ∷ x) (suc i) v h g = (h .0, each-set P x i v (h .1) g)
+
+pub each-all : (m : ℕ) (x : List ℕ) → 0 < m → EachCell (λ v. v < m) x → (i : ℕ) → at x i < m
+each-all m [] z h i = z
+each-all m (a ∷ x) z h zero = h .0
+each-all m (a ∷ x) z h (suc i) = each-all m x z (h .1) i
+
+pub filled-more : (f : ℕ → ℕ) (x : List ℕ) (i v : ℕ) → i < length x → v ≡ f i → ((j : ℕ) → j < i → at x j ≡ f j) → (j : ℕ) → j < i + 1 → at (set x i v) j ≡ f j
+filled-more f x i v l e h j g = step (decLt j i)
+  where
+    step : Dec (j < i) → at (set x i v) j ≡ f j
+    step (yes d) = let o : j ≡ i → ⊥ = (λ q. omega arith) in getD-set-other x i j v 0 o ∙ h j d
+    step (no d) = let q : j ≡ i = omega arith in rw q (getD-set-same x i v 0 l ∙ e)

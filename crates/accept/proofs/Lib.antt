@@ -1,0 +1,11 @@
+pub mod Columns
+pub mod Raising
+pub mod Storing
+pub mod Chains
+pub mod Different
+pub mod Steps
+pub mod Weights
+pub mod Sums
+pub mod Syndromes
+pub mod Accepted
+pub mod Choices

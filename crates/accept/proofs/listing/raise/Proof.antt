@@ -1,0 +1,93 @@
+-- The invariant: the entries below k are raised.
+use Rattle.definitions.specs.Words.{at}
+use mathlib.Core.Path.{_≡_, refl, ap, _∙_}
+use Prim.Native.Nat.{ℕ, _+_, _*_, _-_, _%_, _≤_, _<_}
+use native.Mathlib.Omega.{arith}
+use borrow.Author.Needs.{needs}
+use lib.ListN.{length, length-set}
+use Rattle.words.proofs.Cells.{each-at}
+use Rattle.accept.specs.Listing.{raisedBelow}
+use Rattle.accept.proofs.Raising.{none-raised, one-more, all-raised, raised-small}
+use Rattle.accept.proofs.listing.raise.Statement.{statement}
+use Rattle.accept.proofs.listing.raise.Tie as tie
+
+abbrev Inv-loop : tie.InvT-loop
+Inv-loop columns m cell s modulus base x₀ k₀ x k = (k ≤ 16) × (length x ≡ 16) × (x ≡ raisedBelow m columns cell s k)
+
+abbrev μ-loop : tie.MeasureT-loop
+μ-loop columns m cell s modulus base x₀ k₀ x k = 16 - k
+
+byte-requires : tie.Need-byte-requires Inv-loop μ-loop
+byte-requires c κs = search needs
+
+mul-base : tie.Need-mul-base Inv-loop μ-loop
+mul-base c = search needs
+
+loop-holds : tie.Need-loop-holds Inv-loop μ-loop
+loop-holds c = (search needs, search needs, none-raised _ _ _ _)
+
+array-read-sum : tie.Need-array-read-sum Inv-loop μ-loop
+array-read-sum c = search needs
+
+add-sum : tie.Need-add-sum Inv-loop μ-loop
+add-sum c = search needs
+
+element-copy-out-sum : tie.Need-element-copy-out-sum Inv-loop μ-loop
+element-copy-out-sum c = search needs
+
+sum-requires : tie.Need-sum-requires Inv-loop μ-loop
+sum-requires c κs =
+    let m = c .before .before .before .before .args .m in
+    let k = c .before .before .loop .k in
+    let same = c .before .before .before .byte .ensures in
+    let entries : length (c .before .before .before .before .args .t4) ≡ 16 = search needs in (
+      omega (arith, each-at (λ v. v < m) (c .before .before .before .before .args .t4) (c .before .before .before .before .pre .1 .1) k (omega arith)),
+      omega (arith, c .before .before .before .before .pre .1 .0 (c .before .before .before .before .args .cell * 16 + k)),
+      omega arith,
+    )
+
+array-write-x : tie.Need-array-write-x Inv-loop μ-loop
+array-write-x c = search needs
+
+add-k : tie.Need-add-k Inv-loop μ-loop
+add-k c = search needs
+
+loop-less : tie.Need-loop-less Inv-loop μ-loop
+loop-less c = search needs
+
+loop-again : tie.Need-loop-again Inv-loop μ-loop
+loop-again c =
+    let a = c .before .before .before .before .before .args in
+    let k = c .before .before .before .loop .k in
+    let inv = c .before .before .before .loop .inv in
+    let e = at (a .columns .now) (a .cell * 16 + k) in (
+      search needs,
+      simp length-set (inv .1),
+      one-more (a .m) (a .columns .now) (a .cell) (a .t4) _ _ _ e (inv .2)
+          (c .sum .ensures ∙ ap (λ (z : ℕ). (at (a .t4) k + e) % z) (c .before .before .before .before .byte .ensures)) refl,
+    )
+
+returns : tie.Need-returns Inv-loop μ-loop
+returns c =
+    let a = c .before .before .before .args in
+    let e = all-raised (a .m) (a .columns .now) (a .cell) (a .t4) _ _ (c .before .loop .inv .2) (omega arith) in
+    (e, raised-small (a .m) (a .columns .now) (a .cell) (a .t4) (omega arith) (search needs) _ e)
+
+pub raise-spec : {M : Type 1} → statement M
+raise-spec =
+    tie.close
+    (tie.spec
+    Inv-loop
+    μ-loop
+    byte-requires
+    mul-base
+    loop-holds
+    array-read-sum
+    add-sum
+    element-copy-out-sum
+    sum-requires
+    array-write-x
+    add-k
+    loop-less
+    loop-again
+    returns)
