@@ -43,8 +43,8 @@ loop-again c =
     let a = c .before .before .before .before .before .before .args in (
       search needs,
       c .before .before .before .loop .inv .1
-      ∙ zero-miss (syndromeEntry (codeWith (a .p) (a .matrix .now)) (a .word .now)) (a .p .r) (c .before .before .before .loop .i) (search needs)
-      (sym (c .before .syndrome-entry .ensures) ∙ c .if1 .left),
+          ∙ zero-miss (syndromeEntry (codeWith (a .p) (a .matrix .now)) (a .word .now)) (a .p .r) (c .before .before .before .loop .i) (search needs)
+          (sym (c .before .syndrome-entry .ensures) ∙ c .if1 .left),
     )
 
 returns-2 : tie.Need-returns-2 Inv-loop μ-loop

@@ -1,9 +1,7 @@
-use mathlib.Core.Path.{ap₂}
-use Prim.Native.Nat.{ℕ}
+use mathlib.Core.Path.{ap₂, _≡_, refl, sym, ap, _∙_}
+use Prim.Native.Nat.{ℕ, _+_, _*_, _-_, _≤_}
 use native.Mathlib.Omega.{arith}
 use borrow.Author.Needs.{needs}
-use Prim.Native.Nat.{_+_, _*_, _-_, _≤_}
-use mathlib.Core.Path.{_≡_, refl, sym, ap, _∙_}
 use Rattle.definitions.specs.Words.{at, sumTo}
 use Rattle.syndrome.proofs.Bounds.{sum-more}
 use Rattle.syndrome.proofs.row_sum.Statement.{statement}

@@ -23,9 +23,6 @@ loop-holds c = (search needs, search needs, (λ j h. absurd (omega arith)), λ j
 syndrome-entry-requires : tie.Need-syndrome-entry-requires Inv-loop μ-loop
 syndrome-entry-requires c κs = search needs
 
-mul-s : tie.Need-mul-s Inv-loop μ-loop
-mul-s c = search needs
-
 array-write-s : tie.Need-array-write-s Inv-loop μ-loop
 array-write-s c = search needs
 
@@ -49,7 +46,6 @@ syndrome-spec =
     μ-loop
     loop-holds
     syndrome-entry-requires
-    mul-s
     array-write-s
     add-i
     loop-less

@@ -1,9 +1,9 @@
-use mathlib.Core.Path.{ap₂}
-use Prim.Native.Nat.{_+_, _%_}
-use Rattle.definitions.specs.Codewords.{syndromeEntry}
+use Prim.Native.Nat.{_<_, _-_, _+_, _%_}
+use native.Mathlib.Nat.{mod-lt}
 use native.Mathlib.Omega.{arith}
-use Prim.Native.Nat.{_-_}
 use Rattle.syndrome.proofs.Bounds.{row-fits, matrix-le}
+use mathlib.Core.Path.{ap₂}
+use Rattle.definitions.specs.Codewords.{syndromeEntry}
 use borrow.Author.Needs.{needs}
 use Rattle.syndrome.proofs.syndrome_entry.Statement.{statement}
 use Rattle.syndrome.proofs.syndrome_entry.Tie as tie
@@ -16,6 +16,9 @@ mul-row-sum c = omega (arith, row-fits (c .before .before .args .i) (c .before .
 
 row-sum-requires : tie.Need-row-sum-requires
 row-sum-requires c κs = (search needs, search needs, omega (arith, row-fits (c .before .before .args .i) (c .before .before .args .p .r) (c .before .before .args .p .n - c .before .before .args .p .r) (search needs)))
+
+cast-sum : tie.Need-cast-sum
+cast-sum c = search needs
 
 add-at : tie.Need-add-at
 add-at c = search needs
@@ -32,6 +35,9 @@ add-result c = search needs
 rem-result : tie.Need-rem-result
 rem-result c = search needs
 
+cast-result : tie.Need-cast-result
+cast-result c = let h : 0 < c .before .before .before .before .before .args .p .m = omega arith in omega (arith, mod-lt (c .before .before .row-sum .result + c .wide .result) h, c .before .before .before .before .before .pre .0 .m-high, c .before .before .before .before .before .pre .0 .q-high)
+
 returns : tie.Need-returns
 unfolding syndromeEntry
 returns c = ap₂ (λ a x. (a + x) % (c .before .before .before .before .before .args .p .m)) (c .before .before .row-sum .ensures .0) (c .wide .ensures .0)
@@ -43,9 +49,11 @@ syndrome-entry-spec =
     sub-w
     mul-row-sum
     row-sum-requires
+    cast-sum
     add-at
     shared-slice-read-wide
     wide-requires
     add-result
     rem-result
+    cast-result
     returns)

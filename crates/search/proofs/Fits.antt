@@ -1,0 +1,164 @@
+-- What the tests of a pattern show, cell by cell and entry by entry.
+use mathlib.Core.Path.{_≡_, refl, sym, ap, _∙_, subst}
+use mathlib.Core.Bool.{Bool, true, false, _&&_}
+use mathlib.Core.List.{List, [], _∷_, map}
+use Prim.Native.Nat.{ℕ, zero, suc, _+_, _-_, _≤_, _<_, _%_}
+use native.Mathlib.Nat.{zero-add}
+use native.Mathlib.Decide.{decLt}
+use native.Mathlib.Omega.{arith}
+use lib.Dec.{T, eqb}
+use lib.ListN.{length, drop, length-drop}
+use lib.Seq.{getD-drop}
+use Rattle.definitions.specs.Words.{at, upFrom, subtract, nowhereAbove, allBelow, allZero, EachCell, EachPair}
+use Rattle.definitions.specs.Codes.{Code, dataCells}
+use Rattle.definitions.specs.Codewords.{syndromeEntry, syndrome, ceiling, isCodeword}
+use Rattle.definitions.specs.Decoding.{fits, sameSyndrome}
+use Rattle.definitions.proofs.Tests.{and-left, and-right, and-both, eq-test, same-eq, same-refl, below-each, each-below, above-each, each-above}
+use Rattle.words.proofs.Cells.{at-past, at-map2, length-map2, each-at, at-each, at-upFrom, upFrom-bounds, map-same, map-zero}
+use Rattle.words.proofs.Remainders.{cancel}
+use Rattle.search.specs.declared.Risen.{Risen}
+use Rattle.search.specs.Search.{magnitudeAt, wordOf}
+use Rattle.search.proofs.Choices.{word-at, length-word}
+use Rattle.code.proofs.Syndromes.{syndrome-below, syndrome-add}
+
+pub is-true : (b : Bool) → T b → b ≡ true
+is-true true h = refl
+is-true false h = absurd h
+
+pub is-false : (b : Bool) → (T b → ⊥) → b ≡ false
+is-false true h = absurd (h tt)
+is-false false h = refl
+
+module _ (p : Code) (y e : List ℕ) where
+  pub same-all : ((i : ℕ) → i < p .r → syndromeEntry p e i ≡ syndromeEntry p y i) → sameSyndrome p y e ≡ true
+  unfolding sameSyndrome syndrome
+  same-all h =
+      let q : map (syndromeEntry p e) (upFrom 0 (p .r)) ≡ map (syndromeEntry p y) (upFrom 0 (p .r)) =
+      map-same (syndromeEntry p e) (syndromeEntry p y) (upFrom 0 (p .r)) (λ k m. h k (let (a, b) = upFrom-bounds 0 (p .r) k m in omega arith)) in
+      is-true _ (rw q (same-refl (map (syndromeEntry p y) (upFrom 0 (p .r)))))
+
+  pub same-each : sameSyndrome p y e ≡ true → (i : ℕ) → i < p .r → syndromeEntry p e i ≡ syndromeEntry p y i
+  unfolding sameSyndrome syndrome
+  same-each s i h =
+      let q : map (syndromeEntry p e) (upFrom 0 (p .r)) ≡ map (syndromeEntry p y) (upFrom 0 (p .r)) =
+      same-eq (map (syndromeEntry p e) (upFrom 0 (p .r))) (map (syndromeEntry p y) (upFrom 0 (p .r))) (subst T (sym s) tt) in
+      ap (syndromeEntry p e) (sym (zero-add i)) ∙ sym (at-upFrom (syndromeEntry p e) 0 (p .r) i h) ∙ ap (λ (x : List ℕ). at x i) q
+      ∙ at-upFrom (syndromeEntry p y) 0 (p .r) i h ∙ ap (syndromeEntry p y) (zero-add i)
+
+  -- an entry that differs
+  pub same-not : (i : ℕ) → i < p .r → (syndromeEntry p e i ≡ syndromeEntry p y i → ⊥) → sameSyndrome p y e ≡ false
+  same-not i h n = is-false (sameSyndrome p y e) (λ s. n (same-each (is-true (sameSyndrome p y e) s) i h))
+
+  pub fits-not : sameSyndrome p y e ≡ false → fits p y e ≡ false
+  unfolding fits
+  fits-not s = rw s
+
+module _ (R : ℕ → ℕ → Type 0) where
+  pair-at : (x y : List ℕ) → EachPair R x y → (j : ℕ) → j < length x → R (at x j) (at y j)
+  pair-at [] [] h j g = absurd (omega arith)
+  pair-at [] (b ∷ y) h j g = absurd h
+  pair-at (a ∷ x) [] h j g = absurd h
+  pair-at (a ∷ x) (b ∷ y) h zero g = h .0
+  pair-at (a ∷ x) (b ∷ y) h (suc j) g = pair-at x y (h .1) j (omega arith)
+
+  at-pair : (x y : List ℕ) → length x ≡ length y → ((j : ℕ) → j < length x → R (at x j) (at y j)) → EachPair R x y
+  at-pair [] [] l h = tt
+  at-pair [] (b ∷ y) l h = absurd (omega arith)
+  at-pair (a ∷ x) [] l h = absurd (omega arith)
+  at-pair (a ∷ x) (b ∷ y) l h = (h 0 (omega arith), at-pair x y (omega arith) (λ j g. h (suc j) (omega arith)))
+
+-- a cell is not above the word, and a check cell is left below the ceiling
+abbrev pub CellFits : Code → List ℕ → List ℕ → ℕ → Type 0
+CellFits p y e i = (at e i ≤ at y i) × (dataCells p ≤ i → at y i - at e i < ceiling p)
+
+module _ (p : Code) (y e : List ℕ) (ly : length y ≡ p .n) (le : length e ≡ p .n) where
+  s : List ℕ
+  s = subtract y e
+
+  long : length s ≡ p .n
+  unfolding s
+  long = length-map2 (λ a b. a - b) y e (omega arith) ∙ ly
+
+  cell : (i : ℕ) → i < p .n → at s i ≡ at y i - at e i
+  unfolding s
+  cell i h = at-map2 (λ a b. a - b) y e i (omega arith) (omega arith)
+
+  check-at : (i : ℕ) → dataCells p ≤ i → i < p .n → at (drop (dataCells p) s) (i - dataCells p) ≡ at y i - at e i
+  check-at i b h =
+      getD-drop (dataCells p) s (i - dataCells p) 0
+      ∙ ap (at s) (let q : dataCells p + (i - dataCells p) ≡ i = omega arith in q) ∙ cell i h
+
+  pub fits-each : fits p y e ≡ true → (i : ℕ) → i < p .n → CellFits p y e i
+  unfolding fits isCodeword s
+  fits-each f i h = (pair-at (λ a b. b ≤ a) y e (above-each e y above) i (omega arith), λ b. rw (sym (check-at i b h)) (each-at (λ v. v < ceiling p) (drop (dataCells p) s) (below-each (ceiling p) (drop (dataCells p) s) ceilings) (i - dataCells p) (rw length-drop (omega (arith, long)))))
+    where
+      all : T (sameSyndrome p y e && nowhereAbove e y && isCodeword p s)
+      all = subst T (sym f) tt
+
+      above : T (nowhereAbove e y)
+      above = and-right (sameSyndrome p y e) (nowhereAbove e y) (and-left (sameSyndrome p y e && nowhereAbove e y) (isCodeword p s) all)
+
+      ceilings : T (allBelow (ceiling p) (drop (dataCells p) s))
+      ceilings =
+          and-right (eqb (length s) (p .n) && allBelow (p .q) s) (allBelow (ceiling p) (drop (dataCells p) s))
+          (and-left (eqb (length s) (p .n) && allBelow (p .q) s && allBelow (ceiling p) (drop (dataCells p) s)) (allZero (syndrome p s))
+          (and-right (sameSyndrome p y e && nowhereAbove e y) (isCodeword p s) all))
+
+  -- where the syndromes are the same, the cells decide
+  pub fits-all : 0 < p .M → EachCell (λ v. v < p .q) y → sameSyndrome p y e ≡ true → ((i : ℕ) → i < p .n → CellFits p y e i) → fits p y e ≡ true
+  unfolding fits isCodeword syndrome s
+  fits-all m levels same h = is-true (fits p y e)
+      (and-both (sameSyndrome p y e && nowhereAbove e y) (isCodeword p s)
+      (and-both (sameSyndrome p y e) (nowhereAbove e y) (subst T (sym same) tt) (each-above e y (at-pair (λ a b. b ≤ a) y e (omega arith) (λ j g. h j (omega arith) .0))))
+      (and-both (eqb (length s) (p .n) && allBelow (p .q) s && allBelow (ceiling p) (drop (dataCells p) s)) (allZero (syndrome p s))
+      (and-both (eqb (length s) (p .n) && allBelow (p .q) s) (allBelow (ceiling p) (drop (dataCells p) s))
+      (and-both (eqb (length s) (p .n)) (allBelow (p .q) s) (eq-test (length s) (p .n) long) (each-below (p .q) s (at-each (λ v. v < p .q) s level)))
+      (each-below (ceiling p) (drop (dataCells p) s) (at-each (λ v. v < ceiling p) (drop (dataCells p) s) check)))
+      (map-zero (syndromeEntry p s) (upFrom 0 (p .r)) (λ k b. nothing k (let (a, c) = upFrom-bounds 0 (p .r) k b in omega arith)))))
+    where
+      level : (j : ℕ) → j < length s → at s j < p .q
+      level j g =
+          let b : j < p .n = omega (arith, long) in
+          let l : at y j < p .q = each-at (λ v. v < p .q) y levels j (omega arith) in
+          rw (cell j b) (omega arith)
+
+      check : (j : ℕ) → j < length (drop (dataCells p) s) → at (drop (dataCells p) s) j < ceiling p
+      check j g =
+          let b : dataCells p + j < p .n = (let q = length-drop (dataCells p) s in omega (arith, long)) in
+          rw (getD-drop (dataCells p) s j 0, cell (dataCells p + j) b) (h (dataCells p + j) b .1 (omega arith))
+
+      sum : (j : ℕ) → at y j ≡ at s j + at e j
+      sum j = step (decLt j (p .n))
+        where
+          step : Dec (j < p .n) → at y j ≡ at s j + at e j
+          step (yes b) = let c = h j b .0 in omega (arith, cell j b)
+          step (no b) = omega (arith, at-past y j (omega arith), at-past s j (omega (arith, long)), at-past e j (omega arith))
+
+      nothing : (k : ℕ) → k < p .r → syndromeEntry p s k ≡ 0
+      nothing k b =
+          cancel (p .M) (syndromeEntry p e k) (syndromeEntry p s k) (syndrome-below p m e k) (syndrome-below p m s k)
+          (same-each p y e same k b ∙ syndrome-add p y s e (λ j. ap (λ (v : ℕ). v % p .M) (sum j)) k)
+
+-- the same of a pattern, in the search's terms
+module _ (p : Code) (y : List ℕ) (k : Risen) (ly : length y ≡ p .n) where
+  at-word : (i : ℕ) → i < p .n → at (wordOf (p .n) k) i ≡ magnitudeAt k i
+  at-word i h = word-at (p .n) k i h
+
+  pub above-fails : (i v g : ℕ) → i < p .n → v ≡ at y i → g ≡ magnitudeAt k i → v < g → false ≡ fits p y (wordOf (p .n) k)
+  above-fails i v g h ev eg b = sym (is-false (fits p y (wordOf (p .n) k)) (λ t.
+      let c = fits-each p y (wordOf (p .n) k) ly (length-word (p .n) k) (is-true (fits p y (wordOf (p .n) k)) t) i h .0 in
+      omega (arith, at-word i h)))
+
+  pub ceiling-fails : (i v g u : ℕ) → i < p .n → v ≡ at y i → g ≡ magnitudeAt k i → dataCells p ≤ i → u ≡ ceiling p → u ≤ v - g → false ≡ fits p y (wordOf (p .n) k)
+  ceiling-fails i v g u h ev eg w eu b = sym (is-false (fits p y (wordOf (p .n) k)) (λ t.
+      let c = fits-each p y (wordOf (p .n) k) ly (length-word (p .n) k) (is-true (fits p y (wordOf (p .n) k)) t) i h .1 w in
+      below (at-word i h) c eu))
+    where
+      below : at (wordOf (p .n) k) i ≡ magnitudeAt k i → at y i - at (wordOf (p .n) k) i < ceiling p → u ≡ ceiling p → ⊥
+      below q c eu = let d : at y i - at (wordOf (p .n) k) i < u = rw eu c in omega arith
+
+  pub cells-fit :
+      0 < p .M → EachCell (λ v. v < p .q) y → sameSyndrome p y (wordOf (p .n) k) ≡ true → (u : ℕ) → u ≡ ceiling p
+      → ((i : ℕ) → i < p .n → (magnitudeAt k i ≤ at y i) × (dataCells p ≤ i → at y i - magnitudeAt k i < u)) → true ≡ fits p y (wordOf (p .n) k)
+  cells-fit m levels same u eu h =
+      sym (fits-all p y (wordOf (p .n) k) ly (length-word (p .n) k) m levels same (λ i b. (rw (at-word i b) (h i b .0), λ w. rw (at-word i b, ← eu) (h i b .1 w))))

@@ -1,0 +1,7 @@
+pub mod Choices
+pub mod Columns
+pub mod Fits
+pub mod Order
+pub mod Last
+pub mod Steps
+pub mod Whole
