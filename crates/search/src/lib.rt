@@ -10,7 +10,7 @@ ghost use Rattle.definitions.specs.Patterns.{patternsOf};
 ghost use Rattle.definitions.specs.Decoding.{first, fits, sameSyndrome};
 ghost use Rattle.opening.specs.Opening.{codeWith, Ready};
 ghost use Rattle.syndrome.specs.Columns.{column, Syndrome};
-ghost use Rattle.search.specs.Search.{magnitudeOf, magnitudeAt, wordOf, unrisen, added, Received, Chosen, Remains, lessModulo, testOf, cellsFrom, magnitudesFrom, seek, soughtAs, triedBy, foundWord, CountsOf};
+ghost use Rattle.search.specs.Search.{magnitudeOf, magnitudeAt, wordOf, added, Received, Chosen, Remains, lessModulo, testOf, cellsFrom, magnitudesFrom, seek, soughtAs, triedBy, foundWord, CountsOf};
 
 // At most three risen cells, counted from 0, with their magnitudes; a magnitude of 0 is no choice.
 pub struct Risen {
@@ -22,6 +22,7 @@ pub struct Risen {
     pub m3: usize,
 }
 
+// The empty pattern.
 const UNRISEN: Risen = Risen {
     c1: 0,
     m1: 0,
@@ -32,7 +33,7 @@ const UNRISEN: Risen = Risen {
 };
 
 // What a part of the search found, and how many patterns were tried up to there.
-pub enum Sought {
+enum Sought {
     Hit(Risen, usize),
     Miss(usize),
 }
@@ -47,6 +48,7 @@ pub enum Found {
     Nothing,
 }
 
+// a - e modulo m.
 fn less_modulo(m: usize, a: u8, e: usize) -> u8
     requires { ⌜ (a < m) × (e < m) × (m ≤ 64) ⌝ }
     ensures { λ r. ⌜ r ≡ lessModulo m a e ⌝ }
@@ -80,6 +82,7 @@ pub fn magnitude_at(k: Risen, i: usize) -> usize
     magnitude_of(k.c3, k.m3, i)
 }
 
+// One choice more.
 fn add(k: Risen, cell: usize, mag: usize) -> Risen
     ensures { λ r. ⌜ r ≡ added k cell mag ⌝ }
 {

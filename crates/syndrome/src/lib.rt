@@ -22,6 +22,7 @@ pub fn times(a: usize, b: usize) -> usize
     a * b
 }
 
+// Check cells of a codeword are below this.
 pub fn ceiling(q: usize, m: usize) -> usize
     requires { ⌜ 0 < m ⌝ }
     ensures { λ r. ⌜ (r ≡ m * (q / m)) × (r ≤ q) ⌝ }
@@ -44,6 +45,7 @@ pub fn row_sum(matrix: &[u8], word: &[u8], base: usize, w: usize) -> u32
     sum
 }
 
+// Document 01's residue i + 1.
 pub fn syndrome_entry(matrix: &[u8], p: Parameters, word: &[u8], i: usize) -> u8
     requires ready { ⌜ Ready p (now matrix) ⌝ }
     requires sizes { ⌜ (length (now word) ≡ p .n) × (i < p .r) ⌝ }
@@ -58,6 +60,7 @@ pub fn syndrome_entry(matrix: &[u8], p: Parameters, word: &[u8], i: usize) -> u8
     ((sum + opening::wide(word[at])) % m) as u8
 }
 
+// The syndrome of a word; its entries from r on are 0.
 pub fn syndrome(matrix: &[u8], p: Parameters, word: &[u8]) -> [u8; 12]
     requires ready { ⌜ Ready p (now matrix) ⌝ }
     requires long { ⌜ length (now word) ≡ p .n ⌝ }
@@ -73,6 +76,7 @@ pub fn syndrome(matrix: &[u8], p: Parameters, word: &[u8]) -> [u8; 12]
     s
 }
 
+// Entry i of the column of a cell: the matrix's, or a check cell's unit column.
 pub fn entry(matrix: &[u8], p: Parameters, i: usize, cell: usize) -> usize
     requires ready { ⌜ Ready p (now matrix) ⌝ }
     requires row { ⌜ i < p .r ⌝ }
