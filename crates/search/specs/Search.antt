@@ -111,7 +111,7 @@ abbrev pub foundWord : ℕ → Found → Option (List ℕ)
 foundWord n (Pattern k count tried) = some (wordOf n k)
 foundWord n Nothing = none
 
--- what a found pattern's count and number of tried patterns are: its weight, and its place in the order, which is at most P
+-- a found pattern's count is its weight, and 1 to P patterns were tried
 abbrev pub CountsOf : Code → Found → Type 0
 CountsOf p (Pattern k count tried) = (count ≡ weight (wordOf (p .n) k)) × (1 ≤ tried) × (tried ≤ patternCount p)
 CountsOf p Nothing = Unit {0}

@@ -1,0 +1,3 @@
+pub mod Planes
+pub mod Walk
+pub mod Stack
