@@ -1,4 +1,4 @@
--- Entries of the matrix, and sums of two entries modulo M.
+-- Sums of two entries modulo M, and tables that a loop fills.
 use mathlib.Core.Path.{_≡_, sym, _∙_}
 use mathlib.Core.List.{List, [], _∷_}
 use Prim.Native.Nat.{ℕ, zero, suc, _+_, _*_, _-_, _%_, _≤_, _<_}
@@ -13,34 +13,6 @@ use Rattle.opening.specs.Opening.{codeWith, Ready}
 use Rattle.opening.specs.declared.Parameters.{Parameters}
 use Rattle.words.proofs.Cells.{each-at}
 use Rattle.accept.specs.Listing.{columnEntry}
-
--- row k, column j of a matrix of r rows and w columns
-row-lt : (k r j w : ℕ) → k < r → j < w → k * w + j < r * w
-row-lt k r j w hk hj = let h : suc k * w ≤ r * w = mul-le-mul-right w hk in omega (arith, suc-mul k w)
-
-module _ (p : Parameters) (A : List ℕ) (ready : Ready p A) (cell k : ℕ) where
-  pub past : p .r ≤ k → (0 ≡ columnEntry (codeWith p A) cell k) × (0 < p .m)
-  past h = (rw (le-ltb _ _ h), omega (arith, ready .m-low))
-
-  module _ (hk : k < p .r) where
-    pub within : cell < p .n - p .r → k * (p .n - p .r) + cell < length A
-    within h = omega (arith, row-lt k (p .r) cell (p .n - p .r) hk h, ready .matrix)
-
-    pub small : cell < p .n - p .r → k * (p .n - p .r) + cell ≤ 768
-    small h =
-        let a : k ≤ 11 = omega (arith, ready .r-high) in
-        let b : p .n - p .r ≤ 64 = omega (arith, ready .n-high) in
-        let m : k * (p .n - p .r) ≤ 11 * 64 = mul-le-mul a b in
-        omega arith
-
-    pub of-matrix : cell < p .n - p .r → (at A (k * (p .n - p .r) + cell) ≡ columnEntry (codeWith p A) cell k) × (at A (k * (p .n - p .r) + cell) < p .m)
-    of-matrix h = (rw (lt-ltb _ _ hk, lt-ltb _ _ h), each-at (λ v. v < p .m) A (ready .entries) _ (within h))
-
-    pub of-check : p .n - p .r ≤ cell → cell ≡ (p .n - p .r) + k → (1 ≡ columnEntry (codeWith p A) cell k) × (1 < p .m)
-    of-check h e = (rw (lt-ltb _ _ hk, le-ltb _ _ h, eq-eqb _ _ e), omega (arith, ready .m-low))
-
-    pub of-other : p .n - p .r ≤ cell → (cell ≡ (p .n - p .r) + k → ⊥) → (0 ≡ columnEntry (codeWith p A) cell k) × (0 < p .m)
-    of-other h e = (rw (lt-ltb _ _ hk, le-ltb _ _ h, ne-eqb _ _ e), omega (arith, ready .m-low))
 
 pub sum-below : (v a b m : ℕ) → v ≡ a + b → v < m → v ≡ (a + b) % m
 sum-below v a b m e h = let g : a + b < m = omega arith in e ∙ sym (mod-eq-of-lt g)

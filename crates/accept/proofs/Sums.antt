@@ -7,10 +7,11 @@ use native.Mathlib.Nat.{eq-or-lt-of-le, add-zero, add-suc, suc-add, zero-mul, on
 use native.Mathlib.Omega.{arith}
 use lib.Arith.{digits-div, digits-mod}
 use lib.ListN.{length}
-use borrow.Author.Tests.{lt-ltb, le-ltb, eq-eqb, ne-eqb}
+use borrow.Author.Tests.{lt-ltb, le-ltb}
 use Rattle.definitions.specs.Words.{at, sumTo}
 use Rattle.definitions.specs.Codes.{Code, dataCells}
 use Rattle.words.proofs.Cells.{sum-same}
+use Rattle.syndrome.proofs.Columns.{sum-zero, column-data, column-unit, column-other}
 use Rattle.opening.specs.Opening.{codeWith}
 use Rattle.opening.specs.declared.Parameters.{Parameters}
 use Rattle.accept.specs.Listing.{columnEntry, Columns}
@@ -22,10 +23,6 @@ sum-front (suc n) f = let ih : sumTo (suc n) f ≡ f 0 + sumTo n (λ j. f (suc j
 sum-split : (a b : ℕ) (f : ℕ → ℕ) → sumTo (a + b) f ≡ sumTo a f + sumTo b (λ i. f (a + i))
 sum-split a zero f = rw (add-zero a) (sym (add-zero (sumTo a f)))
 sum-split a (suc b) f = rw (add-suc a b) (let ih = sum-split a b f in omega arith)
-
-sum-zero : (n : ℕ) (f : ℕ → ℕ) → ((i : ℕ) → i < n → f i ≡ 0) → sumTo n f ≡ 0
-sum-zero zero f h = refl
-sum-zero (suc n) f h = let ih = sum-zero n f (λ i l. h i (omega arith)) in let e = h n (omega arith) in omega arith
 
 -- a sum of which only the entry k is not 0
 sum-one : (n k : ℕ) (f : ℕ → ℕ) → k < n → ((i : ℕ) → i < n → (i ≡ k → ⊥) → f i ≡ 0) → sumTo n f ≡ f k
@@ -94,15 +91,12 @@ module _ (p : Parameters) (A cols : List ℕ) (table : Columns p A cols) (k : �
       f j = columnEntry code j k * at e j
 
       matrix : (j : ℕ) → j < w → f j ≡ at A (k * w + j) * at e j
-      matrix j a = rw (lt-ltb k (p .r) h, lt-ltb j w a)
+      matrix j a = rw (lt-ltb k (p .r) h, ← column-data code k j a)
 
       other : (i : ℕ) → i < p .r → (i ≡ k → ⊥) → f (w + i) ≡ 0
       other i a b =
-          let c : w ≤ w + i = omega arith in
-          let d : w + i ≡ w + k → ⊥ = (λ q. b (omega arith)) in
-          rw (lt-ltb k (p .r) h, le-ltb (w + i) w c, ne-eqb (w + i) (w + k) d) (zero-mul (at e (w + i)))
+          rw (lt-ltb k (p .r) h, ← column-other code k (w + i) (omega arith) (λ q. b (omega arith))) (zero-mul (at e (w + i)))
 
       check : f (w + k) ≡ at e (w + k)
       check =
-          let c : w ≤ w + k = omega arith in
-          rw (lt-ltb k (p .r) h, le-ltb (w + k) w c, eq-eqb (w + k) (w + k) refl) (one-mul (at e (w + k)))
+          rw (lt-ltb k (p .r) h, ← column-unit code k (w + k) (omega arith) refl) (one-mul (at e (w + k)))

@@ -3,20 +3,18 @@ use mathlib.Core.Path.{_≡_}
 use mathlib.Core.Bool.{cond}
 use mathlib.Core.List.{List, [], _∷_, _++_, map}
 use Prim.Native.Nat.{ℕ, zero, suc, _+_, _*_, _-_, _/_, _%_, _≤_, _<_}
-use lib.Dec.{eqb, ltb}
+use lib.Dec.{ltb}
 use lib.ListN.{set, replicate}
 use Rattle.definitions.specs.Words.{at, upFrom}
-use Rattle.definitions.specs.Codes.{Code, dataCells}
+use Rattle.definitions.specs.Codes.{Code}
 use Rattle.definitions.specs.Patterns.{ofWeight, patterns}
 use Rattle.opening.specs.Opening.{codeWith}
+use Rattle.syndrome.specs.Columns.{column}
 use Rattle.opening.specs.declared.Parameters.{Parameters}
 
--- what one level of a cell adds to entry k: the matrix's entry, and for a check cell the unit column's
+-- entry k of a cell's column, and 0 beyond the r entries
 abbrev pub columnEntry : Code → ℕ → ℕ → ℕ
-columnEntry p cell k =
-    cond (ltb k (p .r))
-    (cond (ltb cell (dataCells p)) (at (p .A) (k * dataCells p + cell)) (cond (eqb cell (dataCells p + k)) 1 0))
-    0
+columnEntry p cell k = cond (ltb k (p .r)) (column p k cell) 0
 
 -- the parameters and the columns that the listing can take: 16 entries to a cell, one cell after another
 pub record Listable (p : Parameters) (cols : List ℕ) : Type 0 where

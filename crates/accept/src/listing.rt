@@ -24,20 +24,16 @@ fn sum(a: u8, b: u8, m: u8) -> u8
     if v < m { v } else { v - m }
 }
 
+// Entry k of a cell's column, and 0 beyond the r entries.
 fn column_entry(matrix: &[u8], p: Parameters, cell: usize, k: usize) -> u8
     requires { ⌜ Ready p (now matrix) ⌝ }
     ensures { λ e. ⌜ (e ≡ columnEntry (codeWith p (now (matrix .entry))) cell k) × (e < p .m) ⌝ }
 {
-    let n = p.n;
     let r = p.r;
-    let w = n - r;
     if r <= k {
         return 0;
     }
-    if cell < w {
-        return matrix[k * w + cell];
-    }
-    if cell == w + k { 1 } else { 0 }
+    byte(syndrome::entry(matrix, p, k, cell))
 }
 
 // The columns of all cells: a column's entries stand side by side, so that a cell is raised by one pass over them.

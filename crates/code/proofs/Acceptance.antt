@@ -24,7 +24,7 @@ le-entry : (l v : ℕ) → v ≤ l → Entry (upFrom 1 l) v
 le-entry l zero h = inl refl
 le-entry l (suc v) h = inr (upFrom-mem 1 l (suc v) (omega arith) (omega arith))
 
-magnitude-pos : (l v : ℕ) → List·Memᴰ v (upFrom 1 l) → 0 < v
+pub magnitude-pos : (l v : ℕ) → List·Memᴰ v (upFrom 1 l) → 0 < v
 magnitude-pos l v m = omega (arith, upFrom-bounds 1 l v m)
 
 module _ (p : Code) where

@@ -51,7 +51,8 @@ pub product-pos : (n : ℕ) (ps : List Code) → Planes n ps → 0 < product ps
 product-pos n [] h = omega arith
 product-pos n (p ∷ ps) h = mul-pos (plane-pos n p (h .0)) (product-pos n ps (h .1))
 
-plane-opened : (n : ℕ) (b : List ℕ) (p : Code) → openPlane n b ≡ given p → Plane n p
+-- the plane that opens has the bytes' fields, and they are in range
+pub plane-opened : (n : ℕ) (b : List ℕ) (p : Code) → openPlane n b ≡ given p → (planeOf n b ≡ p) × Plane n p
 unfolding openPlane
 plane-opened n b p e =
     let t = between 2 (at b 0) 64 && (leb (at b 1) 12 && ltb (at b 1) n) && (leb (at b 2) 3 && leb (at b 2) n) in
@@ -62,21 +63,23 @@ plane-opened n b p e =
     let (a₅, e₅) = not-refused 5 (ltb 4096 (patternCount (planeOf n b))) _ p e₄ in
     let low : 2 ≤ at b 0 = leb→le 2 (at b 0) (search (and-left, and-right)) in
     let bytes : 3 + at b 1 * (n - at b 1) ≤ length b = ltb-false (length b) (3 + at b 1 * (n - at b 1)) a₃ in
-    let s : planeOf n b ≡ p = cc in
-    subst (Plane n) s (record {
-      long = refl;
-      whole = refl;
-      top = omega arith;
-      M-low = low;
-      M-high = leb→le (at b 0) 64 (search (and-left, and-right));
-      r-high = leb→le (at b 1) 12 (search (and-left, and-right));
-      r-below = ltb→lt (at b 1) n (search (and-left, and-right));
-      t-high = leb→le (at b 2) 3 (search (and-left, and-right));
-      t-below = leb→le (at b 2) n (search (and-left, and-right));
-      matrix = length-take-le (at b 1 * (n - at b 1)) (drop 3 b) (omega (arith, length-drop 3 b));
-      entries = below-each (at b 0) (planeOf n b .A) a₄;
-      few = ltb-false 4096 (patternCount (planeOf n b)) a₅;
-    })
+    let s : planeOf n b ≡ p = cc in (
+      s,
+      subst (Plane n) s (record {
+        long = refl;
+        whole = refl;
+        top = omega arith;
+        M-low = low;
+        M-high = leb→le (at b 0) 64 (search (and-left, and-right));
+        r-high = leb→le (at b 1) 12 (search (and-left, and-right));
+        r-below = ltb→lt (at b 1) n (search (and-left, and-right));
+        t-high = leb→le (at b 2) 3 (search (and-left, and-right));
+        t-below = leb→le (at b 2) n (search (and-left, and-right));
+        matrix = length-take-le (at b 1 * (n - at b 1)) (drop 3 b) (omega (arith, length-drop 3 b));
+        entries = below-each (at b 0) (planeOf n b .A) a₄;
+        few = ltb-false 4096 (patternCount (planeOf n b)) a₅;
+      }),
+    )
 
 planes-opened : (m n : ℕ) (b : List ℕ) (ps : List Code) → openPlanes m n b ≡ given ps → Planes n ps × (length ps ≡ m)
 unfolding openPlanes
@@ -90,7 +93,7 @@ planes-opened (suc m) n b ps e =
     let (xs, g, i) = after-given (openPlanes m n rest) (λ xs. given (p ∷ xs)) ps f in
     let s : p ∷ xs ≡ ps = cc in
     let (h, k) = planes-opened m n rest xs g in
-    subst (λ (x : List Code). Planes n x × (length x ≡ suc m)) s ((plane-opened n b p a, h), ap suc k)
+    subst (λ (x : List Code). Planes n x × (length x ≡ suc m)) s ((plane-opened n b p a .1, h), ap suc k)
 
 -- what opening the description b as S shows
 pub record OpenedStack (b : List ℕ) (S : Stack) : Type 0 where

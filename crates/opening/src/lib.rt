@@ -59,7 +59,6 @@ pub enum Opened {
     Refused(Refusal),
 }
 
-// A byte as a number to count and compare with.
 // The refusal of a description that did not open.
 pub fn why_refused(o: Opened) -> Refusal
     ensures { λ r. ⌜ r ≡ refusalOf o ⌝ }
@@ -70,6 +69,7 @@ pub fn why_refused(o: Opened) -> Refusal
     }
 }
 
+// A byte as a number to count and compare with.
 pub fn wide(x: u8) -> usize
     ensures { λ r. ⌜ (r ≡ x) × (r ≤ 255) ⌝ }
 {

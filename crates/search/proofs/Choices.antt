@@ -12,7 +12,11 @@ use borrow.Author.Tests.{eq-eqb, ne-eqb, eqb-true}
 use Rattle.definitions.specs.Words.{at, upFrom}
 use Rattle.words.proofs.Cells.{at-past, at-upFrom, length-upFrom}
 use Rattle.search.specs.declared.Risen.{Risen}
-use Rattle.search.specs.Search.{magnitudeOf, orElse, magnitudeAt, wordOf, added, unrisen, Chosen}
+use Rattle.search.specs.Search.{magnitudeOf, orElse, magnitudeAt, wordOf, added, Chosen}
+
+-- no cell chosen
+abbrev pub unrisen : Risen
+unrisen = record { c1 = 0; m1 = 0; c2 = 0; m2 = 0; c3 = 0; m3 = 0 }
 
 pub of-here : (c g i : ℕ) → c ≡ i → magnitudeOf c g i ≡ g
 of-here c g i e = simp (eq-eqb c i e)

@@ -18,9 +18,9 @@ use Rattle.words.proofs.Remainders.{regroup, cong-add}
 use Rattle.code.proofs.Syndromes.{syndrome-below}
 use Rattle.syndrome.proofs.Columns.{sum-zero, column-past}
 use Rattle.search.specs.declared.Risen.{Risen}
-use Rattle.search.specs.Search.{magnitudeOf, magnitudeAt, wordOf, unrisen, Remains, lessModulo}
+use Rattle.search.specs.Search.{magnitudeOf, magnitudeAt, wordOf, Remains, lessModulo}
 use Rattle.syndrome.specs.Columns.{column, Syndrome}
-use Rattle.search.proofs.Choices.{of-here, of-other, word-at, word-past, unrisen-at}
+use Rattle.search.proofs.Choices.{unrisen, of-here, of-other, word-at, word-past, unrisen-at}
 
 -- an entry of the syndrome before it is taken modulo M, of levels by cell
 abbrev pub total : Code → (ℕ → ℕ) → ℕ → ℕ

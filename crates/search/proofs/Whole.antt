@@ -1,101 +1,40 @@
 -- The list of all patterns: its parts by weight, its length, and the first of it that passes a test.
 use mathlib.Core.Path.{_≡_, refl, sym, ap, ap₂, _∙_, subst}
 use mathlib.Core.Bool.{Bool, true, false}
-use mathlib.Core.List.{List, [], _∷_, _++_}
+use mathlib.Core.List.{List, [], _∷_, _++_, List·Memᴰ, List·Memᴰ·head, List·Memᴰ·tail}
 use mathlib.Core.Option.{Option, none, some, Option·none-ne-some}
-use Prim.Native.Nat.{ℕ, zero, suc, _+_, _-_, _*_, _^_, _≤_, _<_}
-use native.Mathlib.Nat.{pow-zero, pow-suc, zero-add, zero-mul, sub-zero}
+use Prim.Native.Nat.{ℕ, zero, suc, _+_, _-_, _≤_, _<_}
+use native.Mathlib.Nat.{zero-add, sub-zero}
 use native.Mathlib.Numerals.{sub-one}
 use native.Mathlib.Decide.{decLt}
 use native.Mathlib.Omega.{arith}
 use lib.ListN.{length, length-append}
-use Rattle.definitions.specs.Words.{sumTo, upFrom, weight}
+use Rattle.definitions.specs.Words.{upFrom, weight}
 use Rattle.definitions.specs.Codes.{Code}
-use Rattle.definitions.specs.Patterns.{prefixed, prefixedByEach, ofWeight, patterns, patternsOf, patternCount, binomial}
+use Rattle.definitions.specs.Patterns.{ofWeight, patterns, patternsOf, patternCount}
 use Rattle.definitions.specs.Decoding.{first, pickFirst}
-use Rattle.words.proofs.Cells.{length-upFrom}
+use Rattle.words.proofs.PatternList.{ofWeight-shape}
+use Rattle.code.proofs.Acceptance.{magnitude-pos, patterns-number}
 use Rattle.search.specs.declared.Risen.{Risen}
 use Rattle.search.specs.declared.Sought.the-variants.{Hit}
 use Rattle.search.specs.declared.Found.the-variants.{Pattern, Nothing}
-use Rattle.search.specs.Search.{wordOf, unrisen, added, continuing, cellsFrom, seek, pickSought, soughtAs, foundWord, CountsOf}
-use Rattle.search.proofs.Choices.{unrisen-at, added-none, word-same}
+use Rattle.search.specs.Search.{wordOf, added, continuing, cellsFrom, seek, pickSought, soughtAs, foundWord, CountsOf}
+use Rattle.search.proofs.Choices.{unrisen, unrisen-at, added-none, word-same}
 use Rattle.search.proofs.Order.{continued-some, seek-append, continued, all-chosen}
 
--- how many there are
-length-prefixed : (v : ℕ) (es : List (List ℕ)) → length (prefixed v es) ≡ length es
-length-prefixed v [] = refl
-length-prefixed v (e ∷ es) = ap suc (length-prefixed v es)
-
-length-each : (vs : List ℕ) (es : List (List ℕ)) → length (prefixedByEach vs es) ≡ length vs * length es
-length-each [] es = sym (zero-mul (length es))
-length-each (v ∷ vs) es =
-    length-append (prefixed v es) (prefixedByEach vs es) ∙ ap₂ _+_ (length-prefixed v es) (length-each vs es) ∙ regroup (length es) (length vs)
+-- what is found is in the list
+found-member : (f : List ℕ → Bool) (es : List (List ℕ)) (t : ℕ) (e : List ℕ) (u : ℕ) → seek f es t ≡ (some e, u) → List·Memᴰ e es
+unfolding seek
+found-member f [] t e u q = absurd (Option·none-ne-some e (ap (λ (o : Option (List ℕ) × ℕ). o .0) q))
+found-member f (x ∷ es) t e u q = step (f x) q (λ (r : seek f es (t + 1) ≡ (some e, u)). found-member f es (t + 1) e u r)
   where
-    regroup : (a b : ℕ) → a + b * a ≡ suc b * a
-    regroup a b = omega arith
+    step : (b : Bool) → pickSought f b x (t + 1) (seek f es (t + 1)) ≡ (some e, u) → (seek f es (t + 1) ≡ (some e, u) → List·Memᴰ e es) → List·Memᴰ e (x ∷ es)
+    step true r ih = let s : some x ≡ some e = ap (λ (o : Option (List ℕ) × ℕ). o .0) r in let z : e ≡ x = cc in List·Memᴰ·head z
+    step false r ih = List·Memᴰ·tail (ih r)
 
-module _ (mags : List ℕ) where
-  length-weight : (i n : ℕ) → length (ofWeight mags i n) ≡ binomial n i * length mags ^ i
-  length-weight zero zero = rw (pow-zero (length mags))
-  length-weight (suc i) zero = sym (zero-mul (length mags ^ suc i))
-  length-weight zero (suc n) = length-prefixed 0 (ofWeight mags zero n) ∙ length-weight zero n
-  length-weight (suc i) (suc n) =
-      length-append (prefixedByEach mags (ofWeight mags i n)) (prefixed 0 (ofWeight mags (suc i) n))
-      ∙ ap₂ _+_ (length-each mags (ofWeight mags i n) ∙ ap (λ (k : ℕ). length mags * k) (length-weight i n)) (length-prefixed 0 (ofWeight mags (suc i) n) ∙ length-weight (suc i) n)
-      ∙ regroup (length mags) (length mags ^ i) (length mags ^ suc i) (binomial n i) (binomial n (suc i)) (pow-suc (length mags) i)
-    where
-      regroup : (m a b c d : ℕ) → b ≡ a * m → m * (c * a) + d * b ≡ (c + d) * b
-      regroup m a b c d h = rw h (omega arith)
-
-  length-patterns : (t n : ℕ) → length (patterns mags t n) ≡ sumTo (suc t) (λ i. binomial n i * length mags ^ i)
-  length-patterns zero n = length-weight 0 n ∙ sym (zero-add (binomial n 0 * length mags ^ 0))
-  length-patterns (suc t) n = length-append (patterns mags t n) (ofWeight mags (suc t) n) ∙ ap₂ _+_ (length-patterns t n) (length-weight (suc t) n)
-
-pub patterns-counted : (p : Code) → length (patternsOf p) ≡ patternCount p
-unfolding patternsOf patternCount
-patterns-counted p = length-patterns (upFrom 1 (p .l)) (p .t) (p .n) ∙ ap (λ (m : ℕ). sumTo (suc (p .t)) (λ i. binomial (p .n) i * m ^ i)) (length-upFrom 1 (p .l))
-
--- what holds of each of a list
-module _ (P : List ℕ → Type 0) where
-  abbrev Every : List (List ℕ) → Type 0
-  Every [] = Unit {0}
-  Every (e ∷ es) = P e × Every es
-
-  every-append : (xs ys : List (List ℕ)) → Every xs → Every ys → Every (xs ++ ys)
-  every-append [] ys h g = g
-  every-append (x ∷ xs) ys h g = (h .0, every-append xs ys (h .1) g)
-
-  every-found : (f : List ℕ → Bool) (es : List (List ℕ)) (t : ℕ) (e : List ℕ) (u : ℕ) → Every es → seek f es t ≡ (some e, u) → P e
-  unfolding seek
-  every-found f [] t e u h q = absurd (Option·none-ne-some e (ap (λ (o : Option (List ℕ) × ℕ). o .0) q))
-  every-found f (x ∷ es) t e u h q = step (f x) q (λ (r : seek f es (t + 1) ≡ (some e, u)). every-found f es (t + 1) e u (h .1) r)
-    where
-      step : (b : Bool) → pickSought f b x (t + 1) (seek f es (t + 1)) ≡ (some e, u) → (seek f es (t + 1) ≡ (some e, u) → P e) → P e
-      step true r ih = let s : some x ≡ some e = ap (λ (o : Option (List ℕ) × ℕ). o .0) r in let z : x ≡ e = cc in subst P z (h .0)
-      step false r ih = ih r
-
-every-map : (P Q : List ℕ → Type 0) (v : ℕ) → ((e : List ℕ) → P e → Q (v ∷ e)) → (es : List (List ℕ)) → Every P es → Every Q (prefixed v es)
-every-map P Q v g [] h = tt
-every-map P Q v g (e ∷ es) h = (g e (h .0), every-map P Q v g es (h .1))
-
--- the patterns of a weight have it
-abbrev Weighs : ℕ → List ℕ → Type 0
-Weighs w e = weight e ≡ w
-
-every-each : (w a k : ℕ) (es : List (List ℕ)) → Every (Weighs w) es → Every (Weighs (suc w)) (prefixedByEach (upFrom (suc a) k) es)
-every-each w a zero es h = tt
-every-each w a (suc k) es h =
-    every-append (Weighs (suc w)) (prefixed (suc a) es) (prefixedByEach (upFrom (suc (suc a)) k) es)
-    (every-map (Weighs w) (Weighs (suc w)) (suc a) (λ e q. ap suc q) es h) (every-each w (suc a) k es h)
-
-every-weight : (l w n : ℕ) → Every (Weighs w) (ofWeight (upFrom 1 l) w n)
-every-weight l zero zero = (refl, tt)
-every-weight l (suc w) zero = tt
-every-weight l zero (suc n) = every-map (Weighs 0) (Weighs 0) 0 (λ e q. q) (ofWeight (upFrom 1 l) 0 n) (every-weight l 0 n)
-every-weight l (suc w) (suc n) =
-    every-append (Weighs (suc w)) (prefixedByEach (upFrom 1 l) (ofWeight (upFrom 1 l) w n)) (prefixed 0 (ofWeight (upFrom 1 l) (suc w) n))
-    (every-each w 0 l (ofWeight (upFrom 1 l) w n) (every-weight l w n))
-    (every-map (Weighs (suc w)) (Weighs (suc w)) 0 (λ e q. q) (ofWeight (upFrom 1 l) (suc w) n) (every-weight l (suc w) n))
+-- and has the list's weight
+found-weight : (l w n : ℕ) (f : List ℕ → Bool) (t : ℕ) (e : List ℕ) (u : ℕ) → seek f (ofWeight (upFrom 1 l) w n) t ≡ (some e, u) → weight e ≡ w
+found-weight l w n f t e u q = ofWeight-shape (upFrom 1 l) (magnitude-pos l) w n e (found-member f (ofWeight (upFrom 1 l) w n) t e u q) .2
 
 -- the search from the first cell is the patterns of a weight
 continuing-none : (es : List (List ℕ)) → continuing [] es ≡ es
@@ -127,7 +66,7 @@ module _ (p : Code) where
   pub room-all : (w tried : ℕ) → 1 ≤ w → w ≤ p .t → tried ≡ length (upTo (w - 1)) → patternCount p ≤ 4096 → tried + length (cellsFrom p unrisen w 0) ≤ 4096
   unfolding patternsOf
   room-all w tried one h e b =
-      let g : length (upTo w) ≤ 4096 = grown w (p .t) h 4096 (let c = patterns-counted p in omega arith) in
+      let g : length (upTo w) ≤ 4096 = grown w (p .t) h 4096 (let c = patterns-number p in omega arith) in
       let s : length (upTo w) ≡ length (upTo (w - 1)) + length (cellsFrom p unrisen w 0) = ap length (split w one) ∙ length-append (upTo (w - 1)) (cellsFrom p unrisen w 0) in
       omega arith
 
@@ -202,17 +141,17 @@ module _ (p : Code) (f : List ℕ → Bool) where
 
     pub answer-counts : w ≡ weight (wordOf (p .n) k) → CountsOf p (Pattern k w u)
     unfolding patternsOf
-    answer-counts e = let (a, b) = seek-place f (upTo p (p .t)) 0 (wordOf (p .n) k) u all in let c = patterns-counted p in (e, omega arith, omega arith)
+    answer-counts e = let (a, b) = seek-place f (upTo p (p .t)) 0 (wordOf (p .n) k) u all in let c = patterns-number p in (e, omega arith, omega arith)
 
   pub found-weighs : (w t : ℕ) (k : Risen) (u : ℕ) → soughtAs (p .n) (Hit k u) ≡ seek f (cellsFrom p unrisen w 0) t → w ≡ weight (wordOf (p .n) k)
   found-weighs w t k u q =
-      sym (every-found (Weighs w) f (ofWeight (upFrom 1 (p .l)) w (p .n)) t (wordOf (p .n) k) u (every-weight (p .l) w (p .n))
+      sym (found-weight (p .l) w (p .n) f t (wordOf (p .n) k) u
       (ap (λ (l : List (List ℕ)). seek f l t) (sym (from-first p w)) ∙ sym q))
 
   -- the empty pattern, tried first
   pub unrisen-weighs : f (wordOf (p .n) unrisen) ≡ true → 0 ≡ weight (wordOf (p .n) unrisen)
   unrisen-weighs h =
-      sym (every-found (Weighs 0) f (upTo p 0) 0 (wordOf (p .n) unrisen) 1 (every-weight (p .l) 0 (p .n)) (unrisen-passes p f h))
+      sym (found-weight (p .l) 0 (p .n) f 0 (wordOf (p .n) unrisen) 1 (unrisen-passes p f h))
 
 pub unrisen-same : (n : ℕ) → wordOf n (added unrisen 0 0) ≡ wordOf n unrisen
 unrisen-same n = word-same n (added unrisen 0 0) unrisen (λ i h. added-none unrisen 0 refl i)

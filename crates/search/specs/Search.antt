@@ -37,10 +37,6 @@ magnitudeAt k i =
 unfoldable pub wordOf : ℕ → Risen → List ℕ
 wordOf n k = map (magnitudeAt k) (upFrom 0 n)
 
--- no cell chosen
-abbrev pub unrisen : Risen
-unrisen = record { c1 = 0; m1 = 0; c2 = 0; m2 = 0; c3 = 0; m3 = 0 }
-
 -- one choice more, before the others
 abbrev pub added : Risen → ℕ → ℕ → Risen
 added k c g = record { c1 = c; m1 = g; c2 = k .c1; m2 = k .m1; c3 = k .c2; m3 = k .m2 }

@@ -15,7 +15,6 @@ use Rattle.definitions.specs.Codes.{Code, dataCells}
 use Rattle.definitions.specs.Patterns.{patternCount}
 use Rattle.definitions.specs.StackOperations.{planeOf, openPlane}
 use Rattle.definitions.proofs.Tests.{and-left, and-right, below-each}
-use Rattle.code.proofs.Refusals.{not-refused, passed}
 use Rattle.opening.specs.Opening.{codeWith, refusalNumber}
 use Rattle.opening.specs.declared.Refusal.{Refusal}
 use Rattle.opening.proofs.Ready.{from4}
@@ -92,17 +91,6 @@ module _ (b : List ℕ) (n place c r t : ℕ) where
               few = few;
             };
       }
-
--- the plane that opens is the one at the head of the bytes
-pub plane-is : (n : ℕ) (b : List ℕ) (p : Code) → openPlane n b ≡ given p → planeOf n b ≡ p
-unfolding openPlane
-plane-is n b p e =
-    let (_, e₁) = not-refused 1 (ltb (length b) 3) _ p e in
-    let (_, e₂) = passed 2 (planeInRange n (at b 0) (at b 1) (at b 2)) _ p e₁ in
-    let (_, e₃) = not-refused 3 (ltb (length b) (3 + at b 1 * (n - at b 1))) _ p e₂ in
-    let (_, e₄) = passed 4 (allBelow (at b 0) (planeOf n b .A)) _ p e₃ in
-    let (_, e₅) = not-refused 5 (ltb 4096 (patternCount (planeOf n b))) _ p e₄ in
-    cc
 
 -- an answer o of opening the plane at a place of the description b of a stack of n cells
 module _ (b : List ℕ) (n place : ℕ) (o : PlaneOpened) where

@@ -22,7 +22,7 @@ use Rattle.stack_opening.specs.declared.Plane.{Plane}
 use Rattle.stack_opening.specs.declared.PlaneOpened.{PlaneOpened}
 use Rattle.stack_opening.specs.declared.PlaneOpened.the-variants.{Refused}
 use Rattle.stack_opening.specs.declared.StackParameters.{StackParameters}
-use Rattle.stack_opening.proofs.Planes.{plane-is}
+use Rattle.digit_planes.proofs.Opened.{plane-opened}
 
 -- the bytes after the plane p
 abbrev pub afterPlane : Code → List ℕ → List ℕ
@@ -36,7 +36,7 @@ planes-first k n b ps e =
     let (p, f, g) = after-given (openPlane n b) (λ p. after (openPlanes k n rest) λ qs. given (p ∷ qs)) ps e in
     let (qs, h, i) = after-given (openPlanes k n rest) (λ qs. given (p ∷ qs)) ps g in
     let s : ps ≡ p ∷ qs = cc in
-    (p, qs, s, f, subst (λ (c : Code). openPlanes k n (afterPlane c b) ≡ given qs) (plane-is n b p f) h)
+    (p, qs, s, f, subst (λ (c : Code). openPlanes k n (afterPlane c b) ≡ given qs) (plane-opened n b p f .0) h)
 
 -- of m planes, with j opened
 one-more : (m j : ℕ) → j < m → m - j ≡ suc (m - (j + 1))
@@ -64,7 +64,7 @@ walk-start n (refusedAt k i) = refl
 module _ (n j q : ℕ) (b : List ℕ) where
   pub walk-next : (k : ℕ) (p : Code) → openPlane n b ≡ given p → walked n j q (openPlanes (suc k) n b) ≡ walked n (j + 1) (q * p .M) (openPlanes k n (afterPlane p b))
   unfolding openPlanes
-  walk-next k p e = rw (e, ← plane-is n b p e) (step (planeOf n b) (openPlanes k n (afterPlane (planeOf n b) b)))
+  walk-next k p e = rw (e, ← plane-opened n b p e .0) (step (planeOf n b) (openPlanes k n (afterPlane (planeOf n b) b)))
     where
       step : (c : Code) (a : Answer (List Code)) → walked n j q (after a λ ps. given (c ∷ ps)) ≡ walked n (j + 1) (q * c .M) a
       step c (given ps) =
