@@ -1,18 +1,13 @@
 -- Sums of two entries modulo M, and tables that a loop fills.
 use mathlib.Core.Path.{_≡_, sym, _∙_}
 use mathlib.Core.List.{List, [], _∷_}
-use Prim.Native.Nat.{ℕ, zero, suc, _+_, _*_, _-_, _%_, _≤_, _<_}
-use native.Mathlib.Nat.{suc-mul, mul-le-mul, mul-le-mul-right, mod-eq-of-lt, mod-eq-sub-mod}
+use Prim.Native.Nat.{ℕ, zero, suc, _+_, _-_, _%_, _≤_, _<_}
+use native.Mathlib.Nat.{mod-eq-of-lt, mod-eq-sub-mod}
 use native.Mathlib.Decide.{decLt}
 use native.Mathlib.Omega.{arith}
 use lib.ListN.{length, set}
 use lib.Seq.{getD-set-same, getD-set-other}
-use borrow.Author.Tests.{lt-ltb, le-ltb, eq-eqb, ne-eqb}
 use Rattle.definitions.specs.Words.{at, EachCell}
-use Rattle.opening.specs.Opening.{codeWith, Ready}
-use Rattle.opening.specs.declared.Parameters.{Parameters}
-use Rattle.words.proofs.Cells.{each-at}
-use Rattle.accept.specs.Listing.{columnEntry}
 
 pub sum-below : (v a b m : ℕ) → v ≡ a + b → v < m → v ≡ (a + b) % m
 sum-below v a b m e h = let g : a + b < m = omega arith in e ∙ sym (mod-eq-of-lt g)

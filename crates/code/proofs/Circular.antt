@@ -1,5 +1,5 @@
 -- Circular reading and ours: for an accepted code they agree wherever a codeword is within reach, and where they differ ours is 11.
-use mathlib.Core.Path.{_≡_, refl, sym, ap, ap₂, _∙_, subst}
+use mathlib.Core.Path.{_≡_, refl, sym, ap, ap₂, _∙_}
 use mathlib.Core.List.{List, [], _∷_}
 use mathlib.Core.Option.{Option, none, some}
 use Prim.Native.Nat.{ℕ, _+_, _*_, _-_, _%_, _≤_, _<_}
@@ -7,7 +7,7 @@ use native.Mathlib.Nat.{mul-one, add-mod-right, mod-eq-of-lt}
 use native.Mathlib.Omega.{arith}
 use lib.ListN.{length}
 use Rattle.definitions.specs.Words.{subtract, weight, EachCell, EachPair}
-use Rattle.definitions.specs.Answers.{Answer, given, refused}
+use Rattle.definitions.specs.Answers.{refused}
 use Rattle.definitions.specs.Codes.{Code}
 use Rattle.definitions.specs.Acceptance.{Accepted}
 use Rattle.definitions.specs.Patterns.{patternsOf}

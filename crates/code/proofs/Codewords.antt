@@ -1,8 +1,7 @@
 -- The test for a codeword is the proposition; and what a codeword is where M divides q.
-use mathlib.Core.Path.{_≡_, sym, ap, subst}
-use mathlib.Core.Bool.{Bool, _&&_}
+use mathlib.Core.Bool.{_&&_}
 use mathlib.Core.List.{List}
-use Prim.Native.Nat.{ℕ, _<_}
+use Prim.Native.Nat.{ℕ}
 use native.Mathlib.Omega.{arith}
 use lib.Dec.{T, eqb, eqb→eq}
 use lib.ListN.{length, drop}

@@ -1,16 +1,16 @@
 -- Demand 3 for codes: the distance decides.
 use mathlib.Core.Path.{_≡_, refl, sym, ap, ap₂, _∙_, subst}
 use mathlib.Core.Bool.{_&&_}
-use mathlib.Core.List.{List, List·Memᴰ}
+use mathlib.Core.List.{List}
 use mathlib.Core.Option.{Option, none, some}
-use Prim.Native.Nat.{ℕ, _+_, _%_, _≤_, _<_}
+use Prim.Native.Nat.{ℕ, _%_, _≤_}
 use native.Mathlib.Omega.{arith}
 use lib.Dec.{T}
 use lib.ListN.{length}
 use Rattle.definitions.specs.Words.{sameWord, nowhereAbove, subtract, weight, distance, EachPair}
-use Rattle.definitions.specs.Answers.{Answer, given, refused, result, number}
+use Rattle.definitions.specs.Answers.{given, refused, result, number}
 use Rattle.definitions.specs.Codes.{Code}
-use Rattle.definitions.specs.Codewords.{syndromeEntry, syndrome, Codeword, isCodeword}
+use Rattle.definitions.specs.Codewords.{syndrome, Codeword, isCodeword}
 use Rattle.definitions.specs.Patterns.{Pattern, patternsOf}
 use Rattle.definitions.specs.Acceptance.{Accepted}
 use Rattle.definitions.specs.Decoding.{first, sameSyndrome, fits, decodedBy, decode}

@@ -1,15 +1,14 @@
 -- The demands for codes, from the description's bytes to the answer and the output buffer.
-use mathlib.Core.Path.{_≡_, refl, sym, ap, _∙_, subst}
-use mathlib.Core.Bool.{Bool, true, false, _&&_, not}
-use mathlib.Core.Logic.{_⊎_, inl, inr}
+use mathlib.Core.Path.{_≡_, refl, sym, subst}
+use mathlib.Core.Bool.{Bool, true, false, not}
 use mathlib.Core.List.{List}
 use Prim.Native.Nat.{ℕ, _/_, _≤_, _<_}
 use native.Mathlib.Omega.{arith}
-use lib.Dec.{T, eqb}
+use lib.Dec.{T}
 use lib.ListN.{length, take, drop}
 use borrow.Author.Tests.{eq-eqb}
 use Rattle.definitions.specs.Words.{allBelow, EachCell}
-use Rattle.definitions.specs.Answers.{Answer, given, refused, Result, refuse_when_else_, result, after}
+use Rattle.definitions.specs.Answers.{given, Result, refuse_when_else_, result}
 use Rattle.definitions.specs.Codes.{Code, dataCells}
 use Rattle.definitions.specs.Codewords.{Codeword, isCodeword}
 use Rattle.definitions.specs.Acceptance.{Accepted, accepted}

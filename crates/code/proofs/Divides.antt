@@ -4,7 +4,7 @@ use mathlib.Core.Path.{_≡_, refl, sym, ap, ap₂, _∙_, subst}
 use mathlib.Core.Logic.{_↔_}
 use mathlib.Core.List.{List, [], _∷_, map}
 use Prim.Native.Nat.{ℕ, zero, suc, _+_, _*_, _/_, _%_, _<_}
-use native.Mathlib.Nat.{mul-div-cancel-left, mul-one, mul-zero, add-zero, zero-mod, mod-mod, mod-lt, div-self}
+use native.Mathlib.Nat.{mul-div-cancel-left, mul-one, mul-zero, zero-mod, mod-mod, mod-lt, div-self}
 use native.Mathlib.Omega.{arith}
 use lib.ListN.{length, drop, length-map}
 use Rattle.definitions.specs.Words.{at, sumTo, EachCell}

@@ -1,7 +1,7 @@
 -- Demand 2 for codes: messages and codewords correspond one to one.
-use mathlib.Core.Path.{_≡_, refl, sym, ap, ap₂, _∙_, subst}
-use mathlib.Core.List.{List, [], _∷_, _++_, map}
-use Prim.Native.Nat.{ℕ, zero, suc, _+_, _*_, _-_, _/_, _%_, _≤_, _<_}
+use mathlib.Core.Path.{_≡_, sym, ap, ap₂, _∙_, subst}
+use mathlib.Core.List.{List, _++_, map}
+use Prim.Native.Nat.{ℕ, zero, _+_, _*_, _-_, _/_, _%_, _≤_, _<_}
 use native.Mathlib.Nat.{add-zero, zero-add, mod-lt, mul-add-div, div-eq-of-lt, div-add-mod, mul-div-le, lt-of-lt-of-le, div-lt-iff-lt-mul, mul-comm}
 use native.Mathlib.Decide.{decLt}
 use native.Mathlib.Omega.{arith}

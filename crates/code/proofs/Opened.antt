@@ -1,14 +1,12 @@
 -- What opening a description shows of the code.
 use mathlib.Core.Path.{_≡_, subst}
-use mathlib.Core.Bool.{Bool, _&&_, not}
 use mathlib.Core.List.{List}
 use Prim.Native.Nat.{ℕ, _+_, _*_, _-_, _≤_, _<_}
-use native.Mathlib.Omega.{arith}
 use lib.Dec.{T, eqb, ltb, leb→le, eqb→eq}
 use lib.ListN.{length}
 use borrow.Author.Tests.{ltb-false}
 use Rattle.definitions.specs.Words.{allBelow}
-use Rattle.definitions.specs.Answers.{given, refuse_when_else_}
+use Rattle.definitions.specs.Answers.{given}
 use Rattle.definitions.specs.Codes.{Code, codeOf, dataCells}
 use Rattle.definitions.specs.Patterns.{patternCount}
 use Rattle.definitions.specs.CodeOperations.{inRange, openCode}

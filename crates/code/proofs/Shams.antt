@@ -1,10 +1,9 @@
 -- Operations on codes that answer wrongly do not meet the demands. Witnesses: R, the word 4 5 3 2 1 and the message 3 2 1 0 0.
-use mathlib.Core.Path.{_≡_, refl, sym, ap, _∙_}
+use mathlib.Core.Path.{_≡_}
 use mathlib.Core.List.{List, [], _∷_}
-use Prim.Native.Nat.{ℕ, _≤_, _<_}
+use Prim.Native.Nat.{ℕ}
 use native.Mathlib.Omega.{arith}
-use lib.Dec.{T, lit≤}
-use lib.ListN.{replicate}
+use lib.Dec.{lit≤}
 use Rattle.definitions.specs.Answers.{Answer, given, refused}
 use Rattle.definitions.specs.Codes.{Code, codeOf}
 use Rattle.definitions.specs.Codewords.{syndromeEntry, syndrome, Codeword, isCodeword}

@@ -1,7 +1,7 @@
 -- The syndrome is additive, cell by cell, modulo M.
-use mathlib.Core.Path.{_≡_, refl, sym, ap, _∙_, subst}
+use mathlib.Core.Path.{_≡_, sym, ap, _∙_, subst}
 use mathlib.Core.List.{List}
-use Prim.Native.Nat.{ℕ, _+_, _*_, _-_, _%_, _<_}
+use Prim.Native.Nat.{ℕ, _+_, _*_, _%_, _<_}
 use native.Mathlib.Nat.{add-mod, mod-mod, mod-lt, mul-add, zero-add}
 use native.Mathlib.Omega.{arith}
 use Rattle.definitions.specs.Words.{at, sumTo, upFrom}

@@ -1,6 +1,5 @@
 -- Within reach, at document 01's examples.
-use mathlib.Core.List.{List, [], _∷_}
-use Prim.Native.Nat.{ℕ, _≤_}
+use mathlib.Core.List.{[], _∷_}
 use native.Mathlib.Omega.{arith}
 use lib.Dec.{lit≤}
 use Rattle.definitions.specs.Codes.{Code, codeOf}

@@ -1,12 +1,12 @@
 -- The operations on stacks, for every byte string and every buffer: document 01's refusals in their order.
-use mathlib.Core.Bool.{Bool, _&&_, not}
+use mathlib.Core.Bool.{_&&_, not}
 use mathlib.Core.List.{List, [], _∷_}
 use Prim.Native.Nat.{ℕ, zero, suc, _+_, _*_, _-_}
 use lib.Dec.{eqb, leb, ltb}
 use lib.ListN.{length, take, drop}
 use Rattle.definitions.specs.Words.{at, allBelow}
 use Rattle.definitions.specs.Answers.{Answer, given, Result, refuse_when_else_, result, after}
-use Rattle.definitions.specs.Codes.{Code, dataCells}
+use Rattle.definitions.specs.Codes.{Code}
 use Rattle.definitions.specs.Patterns.{patternCount}
 use Rattle.definitions.specs.CodeOperations.{between}
 use Rattle.definitions.specs.Stacks.{Stack, product, levels}

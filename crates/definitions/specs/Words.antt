@@ -1,6 +1,6 @@
 -- Words: lists of numbers, one to a cell. A word of levels is document 01's row, and a word of magnitudes its pattern.
 -- Cell i + 1 of document 01 is entry i of the list.
-use mathlib.Core.Bool.{Bool, true, false, _&&_, not, cond}
+use mathlib.Core.Bool.{Bool, true, false, _&&_, cond}
 use mathlib.Core.List.{List, [], _∷_}
 use Prim.Native.Nat.{ℕ, zero, suc, _+_, _-_}
 use lib.Dec.{eqb, leb, ltb}

@@ -1,12 +1,11 @@
 -- The demands for stacks, from the description's bytes to the answer and the output buffer.
-use mathlib.Core.Path.{_≡_, sym, ap, subst}
+use mathlib.Core.Path.{_≡_, sym, subst}
 use mathlib.Core.List.{List}
 use Prim.Native.Nat.{ℕ, _≤_, _<_}
-use native.Mathlib.Omega.{arith}
 use lib.ListN.{length}
 use borrow.Author.Tests.{eq-eqb}
 use Rattle.definitions.specs.Words.{allBelow, distance, EachCell}
-use Rattle.definitions.specs.Answers.{given, refused, refusedAt, Result, result}
+use Rattle.definitions.specs.Answers.{given, Result, result}
 use Rattle.definitions.specs.Stacks.{Stack, levels}
 use Rattle.definitions.specs.StackCodewords.{StackCodeword, isStackCodeword, AcceptedStack}
 use Rattle.definitions.specs.StackDecoding.{decodeWord}

@@ -4,16 +4,15 @@ use mathlib.Core.Bool.{Bool, true, false, cond}
 use mathlib.Core.Logic.{_⊎_, inl, inr}
 use mathlib.Core.List.{List}
 use Prim.Native.Nat.{ℕ, zero, suc, _+_, _*_, _-_, _%_, _≤_, _<_}
-use native.Mathlib.Nat.{add-zero, zero-add, mul-zero, zero-mul, mul-one, mul-add, mul-comm, add-comm, mod-lt, mod-mod, mod-add-mod, add-mod-mod, mod-eq-of-lt, mod-eq-sub-mod, add-mod-right, eq-or-lt-of-le, mul-le-mul-right, sub-zero}
+use native.Mathlib.Nat.{add-zero, zero-add, mul-zero, mul-one, mul-add, mul-comm, add-comm, mod-lt, mod-mod, mod-add-mod, add-mod-mod, mod-eq-of-lt, mod-eq-sub-mod, add-mod-right, eq-or-lt-of-le, sub-zero}
 use native.Mathlib.Decide.{decLt}
 use native.Mathlib.Omega.{arith}
 use lib.Dec.{eqb, ltb}
 use lib.ListN.{length}
-use borrow.Author.Tests.{lt-ltb, le-ltb, eq-eqb, ne-eqb}
-use Rattle.definitions.specs.Words.{at, sumTo, EachCell}
+use borrow.Author.Tests.{lt-ltb, le-ltb}
+use Rattle.definitions.specs.Words.{at, sumTo}
 use Rattle.definitions.specs.Codes.{Code, dataCells}
 use Rattle.definitions.specs.Codewords.{syndromeEntry}
-use Rattle.words.proofs.Cells.{at-past, each-at}
 use Rattle.words.proofs.Remainders.{regroup, cong-add}
 use Rattle.code.proofs.Syndromes.{syndrome-below}
 use Rattle.syndrome.proofs.Columns.{sum-zero, column-past}

@@ -4,7 +4,7 @@ use mathlib.Core.Bool.{Bool, true, false}
 use mathlib.Core.List.{List, [], _∷_, _++_, List·Memᴰ, List·Memᴰ·head, List·Memᴰ·tail}
 use mathlib.Core.Option.{Option, none, some, Option·none-ne-some}
 use Prim.Native.Nat.{ℕ, zero, suc, _+_, _-_, _≤_, _<_}
-use native.Mathlib.Nat.{zero-add, sub-zero}
+use native.Mathlib.Nat.{sub-zero}
 use native.Mathlib.Numerals.{sub-one}
 use native.Mathlib.Decide.{decLt}
 use native.Mathlib.Omega.{arith}

@@ -4,11 +4,11 @@ use mathlib.Core.Path.{_≡_}
 use mathlib.Core.Bool.{Bool, true, false, cond}
 use mathlib.Core.List.{List, [], _∷_, _++_, map}
 use mathlib.Core.Option.{Option, none, some}
-use Prim.Native.Nat.{ℕ, zero, suc, _+_, _*_, _-_, _%_, _<_, _≤_}
+use Prim.Native.Nat.{ℕ, zero, suc, _+_, _-_, _%_, _<_, _≤_}
 use lib.Dec.{eqb, ltb}
 use lib.ListN.{length}
 use Rattle.definitions.specs.Words.{at, upFrom, weight, EachCell}
-use Rattle.definitions.specs.Codes.{Code, dataCells}
+use Rattle.definitions.specs.Codes.{Code}
 use Rattle.definitions.specs.Codewords.{syndromeEntry}
 use Rattle.definitions.specs.Patterns.{ofWeight, prefixedByEach, patternCount}
 use Rattle.definitions.specs.Decoding.{fits, sameSyndrome}

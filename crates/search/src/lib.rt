@@ -2,10 +2,9 @@
 use opening::Parameters;
 ghost use mathlib.Core.Path.{_≡_};
 ghost use mathlib.Core.Bool.{true};
-ghost use Prim.Native.Nat.{ℕ, _+_, _*_, _/_, _%_, _-_, _<_, _≤_};
+ghost use Prim.Native.Nat.{ℕ, _+_, _*_, _%_, _-_, _<_, _≤_};
 ghost use lib.ListN.{length};
-ghost use Rattle.definitions.specs.Words.{at, sumTo};
-ghost use Rattle.definitions.specs.Codewords.{syndromeEntry};
+ghost use Rattle.definitions.specs.Words.{at};
 ghost use Rattle.definitions.specs.Patterns.{patternsOf};
 ghost use Rattle.definitions.specs.Decoding.{first, fits, sameSyndrome};
 ghost use Rattle.opening.specs.Opening.{codeWith, Ready};

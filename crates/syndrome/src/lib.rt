@@ -1,8 +1,7 @@
 // The syndrome of a word, and what it is made of: sums of products along a row of the matrix, and the entries of a cell's column.
 use opening::Parameters;
 ghost use mathlib.Core.Path.{_≡_};
-ghost use mathlib.Core.Bool.{Bool};
-ghost use Prim.Native.Nat.{ℕ, _+_, _*_, _-_, _/_, _<_, _≤_};
+ghost use Prim.Native.Nat.{_+_, _*_, _-_, _/_, _<_, _≤_};
 ghost use lib.ListN.{length};
 ghost use Rattle.definitions.specs.Words.{at, sumTo, allZero};
 ghost use Rattle.definitions.specs.Codewords.{syndromeEntry, syndrome};

@@ -1,9 +1,9 @@
 -- The first entry that passes a test, and lists whose entries are all different.
 use mathlib.Core.Path.{_≡_, refl, sym, ap, _∙_, subst}
-use mathlib.Core.Bool.{Bool, true, false, _&&_, not}
+use mathlib.Core.Bool.{Bool, true, false, not}
 use mathlib.Core.Logic.{_⊎_, inl, inr}
 use mathlib.Core.List.{List, [], _∷_, map, List·Memᴰ, List·Memᴰ·head, List·Memᴰ·tail, List·Memᴰ·cases-cons, List·Memᴰ·not-nil, Memᴰ·cast}
-use mathlib.Core.Option.{Option, none, some, Option·none-ne-some, Option·some-ne-none}
+use mathlib.Core.Option.{none, some, Option·none-ne-some, Option·some-ne-none}
 use Prim.Native.Nat.{ℕ}
 use lib.Dec.{T, T-not, not-T}
 use Rattle.definitions.specs.Words.{sameWord}

@@ -8,7 +8,7 @@ use native.Mathlib.Nat.{eq-or-lt-of-le, pow-zero, pow-suc, zero-add, zero-mul}
 use native.Mathlib.Omega.{arith}
 use lib.ListN.{length, length-append}
 use Rattle.definitions.specs.Words.{sumTo, upFrom, weight, EachCell}
-use Rattle.definitions.specs.Patterns.{prefixed, prefixedByEach, ofWeight, patterns, binomial, risenFrom, Smaller, Lower, Before}
+use Rattle.definitions.specs.Patterns.{prefixed, prefixedByEach, ofWeight, patterns, binomial, risenFrom, Lower, Before}
 use Rattle.words.proofs.Cells.{upFrom-bounds}
 use Rattle.words.proofs.Lists.{Once}
 

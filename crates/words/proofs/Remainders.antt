@@ -1,6 +1,6 @@
 -- Sums modulo M.
 use mathlib.Core.Path.{_≡_, refl, sym, ap, _∙_}
-use Prim.Native.Nat.{ℕ, zero, suc, _+_, _*_, _-_, _%_, _≤_, _<_}
+use Prim.Native.Nat.{ℕ, zero, suc, _+_, _*_, _-_, _%_, _<_}
 use native.Mathlib.Nat.{add-mod, zero-mul, suc-mul, mod-lt, mod-eq-of-lt, mod-eq-sub-mod, mod-self, mod-add-mod, add-mod-mod, mul-add-mod-self-left, sub-zero, zero-add}
 use native.Mathlib.Decide.{decLt}
 use native.Mathlib.Omega.{arith}

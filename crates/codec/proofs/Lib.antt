@@ -1,0 +1,5 @@
+pub mod Storing
+pub mod Levels
+pub mod Refusals
+pub mod Decoding
+pub mod Clauses

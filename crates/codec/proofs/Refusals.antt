@@ -1,0 +1,92 @@
+-- The refusals that encoding, decoding and recovery begin with: the description, then 8 for the input x and the output buffer.
+use mathlib.Core.Path.{_≡_, sym, ap, subst, _∙_}
+use mathlib.Core.Bool.{Bool, true, false, _&&_, not}
+use mathlib.Core.List.{List}
+use Prim.Native.Nat.{ℕ, _≤_}
+use native.Mathlib.Omega.{arith}
+use lib.Dec.{T, eqb, eqb→eq}
+use lib.ListN.{length, drop}
+use borrow.Author.Tests.{not-true, not-false}
+use Rattle.definitions.specs.Answers.{Answer, given, refused, Result, refuse_when_else_, result, after}
+use Rattle.definitions.specs.Codes.{Code}
+use Rattle.definitions.specs.Words.{allBelow}
+use Rattle.definitions.specs.Codewords.{isCodeword}
+use Rattle.definitions.specs.Acceptance.{accepted}
+use Rattle.definitions.specs.Decoding.{decode}
+use Rattle.definitions.specs.Messages.{symbolsFit, encode, message}
+use Rattle.definitions.specs.CodeOperations.{openCode, testCode}
+use Rattle.definitions.proofs.Tests.{and-left, and-right}
+use Rattle.opening.specs.Opening.{refusalNumber, refusalOf, codeWith, openedAs, Ready}
+use Rattle.opening.specs.declared.Parameters.{Parameters}
+use Rattle.opening.specs.declared.Refusal.{Refusal}
+use Rattle.opening.specs.declared.Opened.{Opened}
+use Rattle.opening.specs.declared.Opened.the-variants.{Open, Refused}
+use Rattle.opening.proofs.Ready.{when-open, when-refused}
+use Rattle.opening.proofs.Ready.{ready as opening-ready}
+use Rattle.code.proofs.Opened.{opened}
+use Rattle.codec.specs.Codec.{leaves}
+
+-- the description b opened with the parameters p
+pub record Opens (b : List ℕ) (p : Parameters) : Type 0 where
+  pub code : openCode b ≡ given (codeWith p (drop 6 b))
+  pub ready : Ready p (drop 6 b)
+  pub six : 6 ≤ length b
+
+module _ (b : List ℕ) (o : Opened) (told : openedAs b o ≡ openCode b) where
+  pub opens-as : (p : Parameters) → o ≡ Open p → Opens b p
+  opens-as p e =
+      let h = when-open b o p e told in
+      record { code = h; ready = opening-ready b p h; six = (let (_, g) = opened b (codeWith p (drop 6 b)) h in omega (arith, g .size)) }
+
+  -- or it did not, and r is the refusal
+  pub opening-refused : (x r : Refusal) → o ≡ Refused x → r ≡ refusalOf o → openCode b ≡ refused (refusalNumber r)
+  opening-refused x r e q = when-refused b o x e told ∙ ap (λ (y : Refusal). refused (refusalNumber y)) (sym (q ∙ ap refusalOf e))
+
+-- the test of a code
+pub test-refused : (b : List ℕ) (k : ℕ) → openCode b ≡ refused k → refused k ≡ testCode b
+unfolding testCode
+test-refused b k e = rw e
+
+pub test-left : (b : List ℕ) (p : Code) → openCode b ≡ given p → (refuse 6 when not (accepted p) else given tt) ≡ testCode b
+unfolding testCode
+test-left b p e = rw e
+
+-- what each operation does once the buffers fit
+abbrev pub encodeRest : List ℕ → Code → Answer (Unit {0} × List ℕ)
+encodeRest s p = refuse 9 when not (symbolsFit p s) else given (tt, encode p s)
+
+abbrev pub decodeRest : List ℕ → Code → Answer (ℕ × List ℕ)
+decodeRest y p = refuse 10 when not (allBelow (p .q) y) else decode p y
+
+abbrev pub recoverRest : List ℕ → Code → Answer (Unit {0} × List ℕ)
+recoverRest c p =
+    refuse 10 when not (allBelow (p .q) c) else
+    refuse 12 when not (isCodeword p c) else
+    given (tt, message p c)
+
+-- buffers that fit have n cells each
+pub lengths : (n i o : ℕ) (t : Bool) → t ≡ (eqb i n && eqb o n) → not t ≡ false → (i ≡ n) × (o ≡ n)
+lengths n i o t e h =
+    let g : T (eqb i n && eqb o n) = subst T (sym (not-false t h) ∙ e) tt in
+    (eqb→eq i n (and-left (eqb i n) (eqb o n) g), eqb→eq o n (and-right (eqb i n) (eqb o n) g))
+
+module _ {A : Type 0} (b x out : List ℕ) (rest : Code → Answer (A × List ℕ)) where
+  abbrev pub operation : Result A
+  operation =
+      result
+      (after (openCode b) λ p.
+      refuse 8 when not (eqb (length x) (p .n) && eqb (length out) (p .n)) else
+      rest p)
+      out
+
+  pub not-open : (k : ℕ) → openCode b ≡ refused k → leaves (refused k) out ≡ operation
+  not-open k e = rw e
+
+  module _ (p : Code) (opens : openCode b ≡ given p) where
+    module _ (t : Bool) (tested : t ≡ (eqb (length x) (p .n) && eqb (length out) (p .n))) where
+      pub wrong-buffer : not t ≡ true → leaves (refused 8) out ≡ operation
+      wrong-buffer h = rw (opens, ← tested, not-true t h)
+
+      -- what is left once both buffers fit
+      pub both-fit : not t ≡ false → result (rest p) out ≡ operation
+      both-fit h = rw (opens, ← tested, not-false t h)
