@@ -1,4 +1,4 @@
--- The cells of a codeword and of a message, by their kind; bounds of check levels.
+-- Check cells, their symbols and levels; the tests of symbols and of codewords.
 use mathlib.Core.Path.{_≡_, sym, _∙_, subst}
 use mathlib.Core.Bool.{true, false, _&&_}
 use mathlib.Core.List.{List}

@@ -1,4 +1,4 @@
--- The refusals that encoding, decoding and recovery begin with: the description, then 8 for the input x and the output buffer.
+-- The refusals that the operations begin with: those of the description, then 8 for the input x and the output buffer.
 use mathlib.Core.Path.{_≡_, sym, ap, subst, _∙_}
 use mathlib.Core.Bool.{Bool, true, false, _&&_, not}
 use mathlib.Core.List.{List}
@@ -82,11 +82,11 @@ module _ {A : Type 0} (b x out : List ℕ) (rest : Code → Answer (A × List �
   pub not-open : (k : ℕ) → openCode b ≡ refused k → leaves (refused k) out ≡ operation
   not-open k e = rw e
 
-  module _ (p : Code) (opens : openCode b ≡ given p) where
-    module _ (t : Bool) (tested : t ≡ (eqb (length x) (p .n) && eqb (length out) (p .n))) where
-      pub wrong-buffer : not t ≡ true → leaves (refused 8) out ≡ operation
-      wrong-buffer h = rw (opens, ← tested, not-true t h)
+  -- t is the answer of the test of both buffers
+  module _ (p : Code) (opens : openCode b ≡ given p) (t : Bool) (tested : t ≡ (eqb (length x) (p .n) && eqb (length out) (p .n))) where
+    pub wrong-buffer : not t ≡ true → leaves (refused 8) out ≡ operation
+    wrong-buffer h = rw (opens, ← tested, not-true t h)
 
-      -- what is left once both buffers fit
-      pub both-fit : not t ≡ false → result (rest p) out ≡ operation
-      both-fit h = rw (opens, ← tested, not-false t h)
+    -- what is left once both fit
+    pub both-fit : not t ≡ false → result (rest p) out ≡ operation
+    both-fit h = rw (opens, ← tested, not-false t h)

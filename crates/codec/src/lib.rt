@@ -234,9 +234,8 @@ fn store_message(p: Parameters, word: &[u8], out: &mut [u8])
     requires { ⌜ (2 ≤ p .m) × (p .r ≤ p .n) × (length (now word) ≡ p .n) × (length (now out) ≡ p .n) ⌝ }
     ensures { λ _. ⌜ ((A : List ℕ) → now (out .exit) ≡ message (codeWith p A) (now (word .entry))) ⌝ }
 {
-    let n = p.n;
     let mut i = 0;
-    while i < n {
+    while i < word.len() {
         out[i] = message_cell(p, word, i);
         i += 1;
     }

@@ -13,11 +13,11 @@ use Rattle.codec.proofs.store_message.Statement.{statement}
 use Rattle.codec.proofs.store_message.Tie as tie
 
 abbrev Inv-loop : tie.InvT-loop
-Inv-loop p word out₀ n i₀ out i =
-    (i ≤ n) × (length out ≡ length out₀) × ((A : List ℕ) → out ≡ storedTo i (message (codeWith p A) word) out₀)
+Inv-loop p word out₀ i₀ out i =
+    (i ≤ length word) × (length out ≡ length out₀) × ((A : List ℕ) → out ≡ storedTo i (message (codeWith p A) word) out₀)
 
 abbrev μ-loop : tie.MeasureT-loop
-μ-loop p word out₀ n i₀ out i = n - i
+μ-loop p word out₀ i₀ out i = length word - i
 
 -- the message and the buffer as lent
 abbrev symbols : tie.Start Inv-loop μ-loop → List ℕ → List ℕ

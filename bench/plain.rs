@@ -1,0 +1,149 @@
+//! Document 01's plans in plain Rust: what the benchmark compares the proved library with.
+
+use std::collections::HashSet;
+
+pub struct Plan<'a> {
+    pub n: usize,
+    pub r: usize,
+    pub q: usize,
+    pub m: usize,
+    pub l: usize,
+    pub t: usize,
+    matrix: &'a [u8],
+}
+
+/// The number of patterns, P.
+pub fn pattern_count(n: usize, l: usize, t: usize) -> u64 {
+    let mut total = 0;
+    let mut term = 1u64;
+    for i in 0..=t {
+        total += term;
+        term = term * (n.saturating_sub(i) * l) as u64 / (i as u64 + 1);
+    }
+    total
+}
+
+impl<'a> Plan<'a> {
+    pub fn open(body: &'a [u8]) -> Result<Plan<'a>, u8> {
+        if body.len() < 6 {
+            return Err(1);
+        }
+        let field = |i: usize| body[i] as usize;
+        let (n, r, q, m, l, t) = (field(0), field(1), field(2), field(3), field(4), field(5));
+        let ranges = (1..=64).contains(&n)
+            && r <= 12
+            && r < n
+            && (2..=64).contains(&q)
+            && (2..=q).contains(&m)
+            && (1..m).contains(&l)
+            && t <= 3
+            && t <= n;
+        if !ranges {
+            return Err(2);
+        }
+        let matrix = &body[6..];
+        if matrix.len() != r * (n - r) {
+            return Err(3);
+        }
+        if matrix.iter().any(|&a| a as usize >= m) {
+            return Err(4);
+        }
+        if pattern_count(n, l, t) > 4096 {
+            return Err(5);
+        }
+        Ok(Plan { n, r, q, m, l, t, matrix })
+    }
+
+    fn entry(&self, k: usize, cell: usize) -> usize {
+        let w = self.n - self.r;
+        if cell < w {
+            self.matrix[k * w + cell] as usize
+        } else if cell == w + k {
+            1
+        } else {
+            0
+        }
+    }
+
+    fn residue(&self, row: &[u8], k: usize) -> usize {
+        let w = self.n - self.r;
+        let sum: usize = self.matrix[k * w..(k + 1) * w].iter().zip(row).map(|(&a, &x)| a as usize * x as usize).sum();
+        (sum + row[w + k] as usize) % self.m
+    }
+
+    fn residues(&self, row: &[u8]) -> Vec<usize> {
+        (0..self.r).map(|k| self.residue(row, k)).collect()
+    }
+
+    fn has_residues(&self, pattern: &[(usize, usize)], wanted: &[usize]) -> bool {
+        wanted.iter().enumerate().all(|(k, &x)| pattern.iter().map(|&(c, g)| g * self.entry(k, c)).sum::<usize>() % self.m == x)
+    }
+
+    /// Every pattern with `left` more risen cells from `cell` on, until `visit` is satisfied.
+    fn walk(&self, left: usize, cell: usize, pattern: &mut Vec<(usize, usize)>, visit: &mut impl FnMut(&[(usize, usize)]) -> bool) -> bool {
+        if left == 0 {
+            return visit(pattern);
+        }
+        for c in cell..self.n {
+            for g in 1..=self.l {
+                pattern.push((c, g));
+                if self.walk(left - 1, c + 1, pattern, visit) {
+                    return true;
+                }
+                pattern.pop();
+            }
+        }
+        false
+    }
+
+    /// The first pattern, in document 01's order, that `visit` is satisfied with.
+    fn first(&self, mut visit: impl FnMut(&[(usize, usize)]) -> bool) -> Option<Vec<(usize, usize)>> {
+        let mut pattern = Vec::with_capacity(3);
+        (0..=self.t).any(|w| self.walk(w, 0, &mut pattern, &mut visit)).then_some(pattern)
+    }
+
+    fn leaves_codeword(&self, row: &[u8], pattern: &[(usize, usize)]) -> bool {
+        let ceiling = self.m * (self.q / self.m);
+        let rise = |cell: usize| pattern.iter().find(|&&(c, _)| c == cell).map_or(0, |&(_, g)| g);
+        pattern.iter().all(|&(c, g)| g <= row[c] as usize)
+            && (self.n - self.r..self.n).all(|c| (row[c] as usize) - rise(c) < ceiling)
+    }
+}
+
+/// 0, or the refusal's number.
+pub fn test(body: &[u8]) -> u8 {
+    let plan = match Plan::open(body) {
+        Ok(plan) => plan,
+        Err(number) => return number,
+    };
+    let mut seen = HashSet::with_capacity(4096);
+    let clash = plan.first(|pattern| {
+        let residues: Vec<u8> =
+            (0..plan.r).map(|k| (pattern.iter().map(|&(c, g)| g * plan.entry(k, c)).sum::<usize>() % plan.m) as u8).collect();
+        !seen.insert(residues)
+    });
+    if clash.is_some() { 6 } else { 0 }
+}
+
+/// The count and the number of patterns tried, or the refusal's number.
+pub fn decode(body: &[u8], row: &[u8], out: &mut [u8]) -> Result<(usize, usize), u8> {
+    let plan = Plan::open(body)?;
+    if row.len() != plan.n || out.len() != plan.n {
+        return Err(8);
+    }
+    if row.iter().any(|&x| x as usize >= plan.q) {
+        return Err(10);
+    }
+    let wanted = plan.residues(row);
+    let mut tried = 0;
+    let found = plan.first(|pattern| {
+        tried += 1;
+        plan.has_residues(pattern, &wanted) && plan.leaves_codeword(row, pattern)
+    });
+    let pattern = found.ok_or(11)?;
+    out.copy_from_slice(row);
+    for &(c, g) in &pattern {
+        out[c] -= g as u8;
+    }
+    Ok((pattern.len(), tried))
+}
