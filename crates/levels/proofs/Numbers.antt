@@ -1,7 +1,7 @@
 -- Answers of the operations on codes, as numbers.
 use mathlib.Core.Path.{_≡_, sym, ap, _∙_}
 use mathlib.Core.List.{List}
-use Prim.Native.Nat.{ℕ, _+_, _≤_}
+use Prim.Native.Nat.{ℕ, _≤_}
 use native.Mathlib.Omega.{arith}
 use Rattle.definitions.specs.Answers.{Answer, Result}
 use Rattle.opening.specs.Opening.{refusalNumber}

@@ -2,6 +2,7 @@
 ghost use mathlib.Core.Path.{_≡_};
 ghost use mathlib.Core.List.{List};
 ghost use Prim.Native.Nat.{ℕ, suc, _*_, _^_, _-_, _≤_, _<_};
+ghost use lib.Dec.{ltb};
 ghost use lib.ListN.{length, drop};
 ghost use Rattle.definitions.specs.Words.{sumTo, allBelow};
 ghost use Rattle.definitions.specs.Codes.{codeOf};
@@ -76,19 +77,30 @@ pub fn wide(x: u8) -> usize
     x as usize
 }
 
-// Whether each cell is below the bound: the entries of a matrix, the levels of a word.
-pub fn all_below(bound: usize, s: &[u8]) -> bool
-    ensures { λ r. ⌜ r ≡ allBelow bound (now (s .entry)) ⌝ }
+// The largest byte, or 0: a loop with one exit, which runs on many bytes at a time.
+fn largest(s: &[u8]) -> u8
+    ensures { λ r. ⌜ ((b : ℕ) → 0 < b → ltb r b ≡ allBelow b (now (s .entry))) ⌝ }
 {
+    let mut top = 0;
     let mut i = 0;
     while i < s.len() {
-        let x = wide(s[i]);
-        if bound <= x {
-            return false;
+        let x = s[i];
+        if top < x {
+            top = x;
         }
         i += 1;
     }
-    true
+    top
+}
+
+// Whether each byte is below a bound.
+pub fn all_below(bound: usize, s: &[u8]) -> bool
+    ensures { λ r. ⌜ r ≡ allBelow bound (now (s .entry)) ⌝ }
+{
+    if bound == 0 {
+        return s.len() == 0;
+    }
+    wide(largest(s)) < bound
 }
 
 // The number of patterns with i + 1 risen cells, from that of those with i: one of the n - i other cells rises by one of l
