@@ -1,4 +1,4 @@
-//! Document 01's plans in plain Rust: what the benchmark compares the proved library with.
+//! Document 01's plans and stacks in plain Rust: what the benchmark compares the proved library with.
 
 use std::collections::HashSet;
 
@@ -146,4 +146,72 @@ pub fn decode(body: &[u8], row: &[u8], out: &mut [u8]) -> Result<(usize, usize),
         out[c] -= g as u8;
     }
     Ok((pattern.len(), tried))
+}
+
+/// A stack's planes, each as a plan.
+fn open_stack(body: &[u8]) -> Result<Vec<Plan<'_>>, u8> {
+    if body.len() < 2 {
+        return Err(1);
+    }
+    let (n, m) = (body[0] as usize, body[1] as usize);
+    if !(1..=64).contains(&n) || !(1..=6).contains(&m) {
+        return Err(2);
+    }
+    let mut rest = &body[2..];
+    let mut planes = Vec::with_capacity(m);
+    for _ in 0..m {
+        if rest.len() < 3 {
+            return Err(1);
+        }
+        let (c, r, t) = (rest[0] as usize, rest[1] as usize, rest[2] as usize);
+        if !(2..=64).contains(&c) || r > 12 || r >= n || t > 3 || t > n {
+            return Err(2);
+        }
+        let size = r * (n - r);
+        if rest.len() < 3 + size {
+            return Err(3);
+        }
+        let matrix = &rest[3..3 + size];
+        if matrix.iter().any(|&a| a as usize >= c) {
+            return Err(4);
+        }
+        if pattern_count(n, c - 1, t) > 4096 {
+            return Err(5);
+        }
+        planes.push(Plan { n, r, q: c, m: c, l: c - 1, t, matrix });
+        rest = &rest[3 + size..];
+    }
+    if !rest.is_empty() {
+        return Err(3);
+    }
+    if planes.iter().map(|p| p.m as u64).product::<u64>() > 64 {
+        return Err(7);
+    }
+    Ok(planes)
+}
+
+/// The count of a stack's row, or the refusal's number.
+pub fn decode_stack(body: &[u8], row: &[u8], out: &mut [u8]) -> Result<usize, u8> {
+    let planes = open_stack(body)?;
+    let n = body[0] as usize;
+    let q: usize = planes.iter().map(|p| p.m).product();
+    if row.len() != n || out.len() != n {
+        return Err(8);
+    }
+    if row.iter().any(|&x| x as usize >= q) {
+        return Err(10);
+    }
+    let mut levels = row.to_vec();
+    let mut w = 1;
+    for plane in &planes {
+        let digits: Vec<u8> = levels.iter().map(|&x| (x as usize / w % plane.m) as u8).collect();
+        let wanted = plane.residues(&digits);
+        let pattern = plane.first(|pattern| plane.has_residues(pattern, &wanted)).ok_or(11)?;
+        for &(c, g) in &pattern {
+            levels[c] = ((levels[c] as usize + q - g * w) % q) as u8;
+        }
+        w *= plane.m;
+    }
+    out.copy_from_slice(&levels);
+    Ok(levels.iter().zip(row).filter(|(a, b)| a != b).count())
 }

@@ -3,18 +3,16 @@ use mathlib.Core.Path.{_≡_, sym, subst}
 use mathlib.Core.List.{List}
 use Prim.Native.Nat.{ℕ}
 use lib.ListN.{length}
-use Rattle.definitions.specs.Answers.{Answer, Result}
+use Rattle.definitions.specs.Answers.{Answer}
 use Rattle.definitions.specs.Codewords.{Codeword}
 use Rattle.definitions.specs.Acceptance.{Accepted}
 use Rattle.definitions.specs.Messages.{Message}
 use Rattle.definitions.specs.CodeOperations.{testCode, encodeCode, decodeCode, recoverCode}
 use Rattle.definitions.specs.Demands.{ofCode, Tested, OneCodeword, Recovered, DistanceDecides, SomeCodeword, KeepsMessages}
-use Rattle.codec.specs.Codec.{leaves, WhereOpened, WhereReceived, WhereAccepted}
+use Rattle.answers.specs.Answering.{leaves}
+use Rattle.answers.proofs.Beginning.{carried}
+use Rattle.codec.specs.Codec.{WhereOpened, WhereReceived, WhereAccepted}
 use Rattle.code.proofs.Demands.{test-demand, encode-demand, recover-demand, decode-demand, decode-some, decode-keeps}
-
--- what holds of the definition's answer and buffer holds of those that equal them
-pub carried : {A : Type 0} (Q : Answer A → List ℕ → Type 0) (r : Result A) {a : Answer A} {out : List ℕ} → leaves a out ≡ r → Q (r .answer) (r .out) → Q a out
-carried {A} Q r e h = subst (λ (u : Result A). Q (u .answer) (u .out)) (sym e) h
 
 pub test-clauses : (b : List ℕ) {a : Answer (Unit {0})} → a ≡ testCode b → (a ≡ testCode b) × WhereOpened b (λ p. Tested (Accepted p) a)
 test-clauses b e = (e, λ p opens. subst (Tested (Accepted p)) (sym e) (test-demand b p opens))

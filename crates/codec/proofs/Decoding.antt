@@ -19,7 +19,7 @@ use Rattle.search.specs.declared.Found.the-variants.{Pattern, Nothing}
 use Rattle.code.proofs.Opened.{opened}
 use Rattle.words.proofs.Cells.{at-map2, length-map2}
 use Rattle.search.proofs.Choices.{length-word, word-at}
-use Rattle.codec.specs.Codec.{leaves}
+use Rattle.answers.specs.Answering.{leaves}
 
 module _ (y : List ℕ) (k : Risen) where
   pub subtract-long : length (subtract y (wordOf (length y) k)) ≡ length y

@@ -1,13 +1,11 @@
 -- The refusals that the operations begin with: those of the description, then 8 for the input x and the output buffer.
-use mathlib.Core.Path.{_≡_, sym, ap, subst, _∙_}
-use mathlib.Core.Bool.{Bool, true, false, _&&_, not}
+use mathlib.Core.Path.{_≡_, sym, ap, _∙_}
+use mathlib.Core.Bool.{not}
 use mathlib.Core.List.{List}
 use Prim.Native.Nat.{ℕ, _≤_}
 use native.Mathlib.Omega.{arith}
-use lib.Dec.{T, eqb, eqb→eq}
 use lib.ListN.{length, drop}
-use borrow.Author.Tests.{not-true, not-false}
-use Rattle.definitions.specs.Answers.{Answer, given, refused, Result, refuse_when_else_, result, after}
+use Rattle.definitions.specs.Answers.{Answer, given, refused, refuse_when_else_}
 use Rattle.definitions.specs.Codes.{Code}
 use Rattle.definitions.specs.Words.{allBelow}
 use Rattle.definitions.specs.Codewords.{isCodeword}
@@ -15,7 +13,6 @@ use Rattle.definitions.specs.Acceptance.{accepted}
 use Rattle.definitions.specs.Decoding.{decode}
 use Rattle.definitions.specs.Messages.{symbolsFit, encode, message}
 use Rattle.definitions.specs.CodeOperations.{openCode, testCode}
-use Rattle.definitions.proofs.Tests.{and-left, and-right}
 use Rattle.opening.specs.Opening.{refusalNumber, refusalOf, codeWith, openedAs, Ready}
 use Rattle.opening.specs.declared.Parameters.{Parameters}
 use Rattle.opening.specs.declared.Refusal.{Refusal}
@@ -24,7 +21,6 @@ use Rattle.opening.specs.declared.Opened.the-variants.{Open, Refused}
 use Rattle.opening.proofs.Ready.{when-open, when-refused}
 use Rattle.opening.proofs.Ready.{ready as opening-ready}
 use Rattle.code.proofs.Opened.{opened}
-use Rattle.codec.specs.Codec.{leaves}
 
 -- the description b opened with the parameters p
 pub record Opens (b : List ℕ) (p : Parameters) : Type 0 where
@@ -63,30 +59,3 @@ recoverRest c p =
     refuse 10 when not (allBelow (p .q) c) else
     refuse 12 when not (isCodeword p c) else
     given (tt, message p c)
-
--- buffers that fit have n cells each
-pub lengths : (n i o : ℕ) (t : Bool) → t ≡ (eqb i n && eqb o n) → not t ≡ false → (i ≡ n) × (o ≡ n)
-lengths n i o t e h =
-    let g : T (eqb i n && eqb o n) = subst T (sym (not-false t h) ∙ e) tt in
-    (eqb→eq i n (and-left (eqb i n) (eqb o n) g), eqb→eq o n (and-right (eqb i n) (eqb o n) g))
-
-module _ {A : Type 0} (b x out : List ℕ) (rest : Code → Answer (A × List ℕ)) where
-  abbrev pub operation : Result A
-  operation =
-      result
-      (after (openCode b) λ p.
-      refuse 8 when not (eqb (length x) (p .n) && eqb (length out) (p .n)) else
-      rest p)
-      out
-
-  pub not-open : (k : ℕ) → openCode b ≡ refused k → leaves (refused k) out ≡ operation
-  not-open k e = rw e
-
-  -- t is the answer of the test of both buffers
-  module _ (p : Code) (opens : openCode b ≡ given p) (t : Bool) (tested : t ≡ (eqb (length x) (p .n) && eqb (length out) (p .n))) where
-    pub wrong-buffer : not t ≡ true → leaves (refused 8) out ≡ operation
-    wrong-buffer h = rw (opens, ← tested, not-true t h)
-
-    -- what is left once both fit
-    pub both-fit : not t ≡ false → result (rest p) out ≡ operation
-    both-fit h = rw (opens, ← tested, not-false t h)

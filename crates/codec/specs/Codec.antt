@@ -1,35 +1,19 @@
--- What the answers of the operations on codes mean in document 01's numbers and values.
+-- What the answer of decoding means in document 01's values, and what the operations' clauses suppose.
 use mathlib.Core.Path.{_≡_}
 use mathlib.Core.List.{List}
 use Prim.Native.Nat.{ℕ, _≤_, _<_}
 use lib.ListN.{length}
 use Rattle.definitions.specs.Words.{EachCell}
-use Rattle.definitions.specs.Answers.{Answer, given, refused, Result}
+use Rattle.definitions.specs.Answers.{Answer, given, refused}
 use Rattle.definitions.specs.Codes.{Code}
 use Rattle.definitions.specs.CodeOperations.{openCode, testCode}
 use Rattle.opening.specs.Opening.{refusalNumber}
-use Rattle.codec.specs.declared.TestAnswer.{TestAnswer}
-use Rattle.codec.specs.declared.TestAnswer.the-variants as test
-use Rattle.codec.specs.declared.WriteAnswer.{WriteAnswer}
-use Rattle.codec.specs.declared.WriteAnswer.the-variants as write
 use Rattle.codec.specs.declared.ReadAnswer.{ReadAnswer}
 use Rattle.codec.specs.declared.ReadAnswer.the-variants as read
-
-abbrev pub testedAs : TestAnswer → Answer (Unit {0})
-testedAs test.Accepted = given tt
-testedAs (test.Refused x) = refused (refusalNumber x)
-
-abbrev pub writtenAs : WriteAnswer → Answer (Unit {0})
-writtenAs write.Written = given tt
-writtenAs (write.Refused x) = refused (refusalNumber x)
 
 abbrev pub decodedAs : ReadAnswer → Answer ℕ
 decodedAs (read.Count count tried) = given count
 decodedAs (read.Refused x) = refused (refusalNumber x)
-
--- an answer with what the output buffer holds
-abbrev pub leaves : {A : Type 0} → Answer A → List ℕ → Result A
-leaves a out = record { answer = a; out = out }
 
 -- a count comes with how many patterns were tried: at least one and at most P
 abbrev pub TriedWithin : ℕ → ReadAnswer → Type 0

@@ -1,5 +1,7 @@
 // The operations on codes: test, encode, decode, recover. Each takes a code's description; the others take a word and an output
 // buffer too, and write to the buffer only after all refusals.
+use answers::TestAnswer;
+use answers::WriteAnswer;
 use opening::Opened;
 use opening::Parameters;
 use opening::Refusal;
@@ -7,9 +9,7 @@ use search::Found;
 use search::Risen;
 ghost use mathlib.Core.Path.{_≡_};
 ghost use mathlib.Core.List.{List};
-ghost use mathlib.Core.Bool.{_&&_};
 ghost use Prim.Native.Nat.{ℕ, _<_, _≤_};
-ghost use lib.Dec.{eqb};
 ghost use lib.ListN.{length};
 ghost use Rattle.definitions.specs.Words.{at, subtract, EachCell};
 ghost use Rattle.definitions.specs.Codes.{codeOf};
@@ -21,17 +21,8 @@ ghost use Rattle.definitions.specs.CodeOperations.{testCode, encodeCode, decode
 ghost use Rattle.definitions.specs.Demands.{ofCode, Tested, OneCodeword, Recovered, DistanceDecides, SomeCodeword, KeepsMessages};
 ghost use Rattle.opening.specs.Opening.{codeWith, Ready};
 ghost use Rattle.search.specs.Search.{wordOf};
-ghost use Rattle.codec.specs.Codec.{testedAs, writtenAs, decodedAs, leaves, TriedWithin, WhereOpened, WhereReceived, WhereAccepted};
-
-pub enum TestAnswer {
-    Accepted,
-    Refused(Refusal),
-}
-
-pub enum WriteAnswer {
-    Written,
-    Refused(Refusal),
-}
+ghost use Rattle.answers.specs.Answering.{testedAs, writtenAs, leaves};
+ghost use Rattle.codec.specs.Codec.{decodedAs, TriedWithin, WhereOpened, WhereReceived, WhereAccepted};
 
 // tried is how many patterns were tried.
 pub enum ReadAnswer {
@@ -53,16 +44,6 @@ pub fn test(body: &[u8]) -> TestAnswer
     } else {
         TestAnswer::Refused(Refusal::NotAccepted)
     }
-}
-
-// Whether an operation's input and output have n cells each.
-fn buffers_fit(n: usize, input: usize, output: usize) -> bool
-    ensures { λ b. ⌜ b ≡ (eqb input n && eqb output n) ⌝ }
-{
-    if input != n {
-        return false;
-    }
-    output == n
 }
 
 // Whether the symbols are below their bounds.
@@ -130,7 +111,7 @@ pub fn encode(body: &[u8], message: &[u8], out: &mut [u8]) -> WriteAnswer
     let Opened::Open(p) = o else {
         return WriteAnswer::Refused(opening::why_refused(o));
     };
-    if !buffers_fit(p.n, message.len(), out.len()) {
+    if !answers::buffers_fit(message.len(), p.n, out.len(), p.n) {
         return WriteAnswer::Refused(Refusal::WrongBuffer);
     }
     if !symbols_fit(p, message) {
@@ -176,7 +157,7 @@ pub fn decode(body: &[u8], received: &[u8], out: &mut [u8]) -> ReadAnswer
     let Opened::Open(p) = o else {
         return ReadAnswer::Refused(opening::why_refused(o));
     };
-    if !buffers_fit(p.n, received.len(), out.len()) {
+    if !answers::buffers_fit(received.len(), p.n, out.len(), p.n) {
         return ReadAnswer::Refused(Refusal::WrongBuffer);
     }
     if !opening::all_below(p.q, received) {
@@ -250,7 +231,7 @@ pub fn recover(body: &[u8], word: &[u8], out: &mut [u8]) -> WriteAnswer
     let Opened::Open(p) = o else {
         return WriteAnswer::Refused(opening::why_refused(o));
     };
-    if !buffers_fit(p.n, word.len(), out.len()) {
+    if !answers::buffers_fit(word.len(), p.n, out.len(), p.n) {
         return WriteAnswer::Refused(Refusal::WrongBuffer);
     }
     if !opening::all_below(p.q, word) {

@@ -1,6 +1,6 @@
 // The boundary for other languages: the operations with numbers in place of enums. A slice is a pointer, then a length.
+use answers::TestAnswer;
 use codec::ReadAnswer;
-use codec::TestAnswer;
 ghost use mathlib.Core.Path.{_≡_};
 ghost use Rattle.definitions.specs.CodeOperations.{testCode, decodeCode};
 ghost use Rattle.levels.specs.Levels.{testNumber, readNumber};

@@ -1,7 +1,7 @@
 // Document 01's worked examples, run through the operations: a line for each, with its letter.
+use answers::TestAnswer;
+use answers::WriteAnswer;
 use codec::ReadAnswer;
-use codec::TestAnswer;
-use codec::WriteAnswer;
 use libc::STDOUT_FILENO;
 use opening::Refusal;
 

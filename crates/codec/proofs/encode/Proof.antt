@@ -1,4 +1,4 @@
-use mathlib.Core.Path.{_≡_, sym, ap, _∙_}
+use mathlib.Core.Path.{_≡_, refl, sym, ap, _∙_}
 use mathlib.Core.Bool.{true}
 use mathlib.Core.List.{List}
 use Prim.Native.Nat.{ℕ}
@@ -10,13 +10,14 @@ use borrow.Author.Tests.{not-true, not-false}
 use Rattle.definitions.specs.Answers.{given, result}
 use Rattle.definitions.specs.Codes.{Code}
 use Rattle.definitions.specs.Messages.{symbolsFit, encode}
-use Rattle.definitions.specs.CodeOperations.{encodeCode}
+use Rattle.definitions.specs.CodeOperations.{openCode, encodeCode}
 use Rattle.opening.specs.Opening.{codeWith}
 use Rattle.opening.specs.declared.Parameters.{Parameters}
 use Rattle.opening.proofs.Below.{take-rest}
-use Rattle.codec.specs.Codec.{leaves}
+use Rattle.answers.specs.Answering.{leaves}
 use Rattle.codec.proofs.Levels.{fits}
-use Rattle.codec.proofs.Refusals.{Opens, opens-as, opening-refused, encodeRest, not-open, lengths, wrong-buffer, both-fit}
+use Rattle.answers.proofs.Beginning.{not-open, lengths, wrong-buffer, both-fit}
+use Rattle.codec.proofs.Refusals.{Opens, opens-as, opening-refused, encodeRest}
 use Rattle.codec.proofs.Clauses.{encode-clauses}
 use Rattle.codec.proofs.encode.Statement.{statement}
 use Rattle.codec.proofs.encode.Tie as tie
@@ -47,14 +48,14 @@ opens c =
 long : (c : tie.Else1) → (length (symbols (start (c .before .before))) ≡ parameters (c .before .before) .n) × (length (lent (start (c .before .before))) ≡ parameters (c .before .before) .n)
 long c =
     let k = c .before .before in
-    lengths (parameters k .n) (length (symbols (start k))) (length (lent (start k))) (c .before .buffers-fit .result) (c .before .buffers-fit .ensures) (c .if1 .left)
+    lengths (length (symbols (start k))) (parameters k .n) (length (lent (start k))) (parameters k .n) (c .before .buffers-fit .result) (c .before .buffers-fit .ensures) (c .if1 .left)
 
 -- what is left once the buffers fit
 left : (c : tie.Else1) → result (encodeRest (symbols (start (c .before .before))) (code (c .before .before))) (lent (start (c .before .before))) ≡ encodeCode (bytes (start (c .before .before))) (symbols (start (c .before .before))) (lent (start (c .before .before)))
 unfolding encodeCode
 left c =
     let k = c .before .before in
-    both-fit (bytes (start k)) (symbols (start k)) (lent (start k)) (encodeRest (symbols (start k))) (code k) (opens k .code) (c .before .buffers-fit .result) (c .before .buffers-fit .ensures) (c .if1 .left)
+    both-fit (openCode (bytes (start k))) (symbols (start k)) (lent (start k)) (λ p. p .n) (λ p. p .n) (encodeRest (symbols (start k))) (code k) (opens k .code) (parameters k .n) (parameters k .n) refl refl (c .before .buffers-fit .result) (c .before .buffers-fit .ensures) (c .if1 .left)
 
 tested : (c : tie.After-symbols-fit) → symbolsFit (code (c .before .before .before)) (symbols (start (c .before .before .before))) ≡ c .symbols-fit .result
 tested c = sym (c .symbols-fit .ensures (drop 6 (bytes (start (c .before .before .before)))))
@@ -77,7 +78,7 @@ returns c =
     let s = c .before .before .before .before .before .before .before in
     let o = c .before .before .before .«open» in
     encode-clauses (bytes s) (symbols s) (lent s)
-    (not-open (bytes s) (symbols s) (lent s) (encodeRest (symbols s)) _
+    (not-open (openCode (bytes s)) (symbols s) (lent s) (λ p. p .n) (λ p. p .n) (encodeRest (symbols s)) _
     (opening-refused (bytes s) (o .result) (o .ensures) (c .before .enum-told .given .0 .0) (c .why-refused .result) (c .before .enum-told .given .1) (c .why-refused .ensures)))
 
 buffers-fit-requires : tie.Need-buffers-fit-requires
@@ -89,7 +90,7 @@ returns-2 c =
     let k = c .before .before in
     let s = start k in
     encode-clauses (bytes s) (symbols s) (lent s)
-    (wrong-buffer (bytes s) (symbols s) (lent s) (encodeRest (symbols s)) (code k) (opens k .code) (c .before .buffers-fit .result) (c .before .buffers-fit .ensures) (c .if1 .taken))
+    (wrong-buffer (openCode (bytes s)) (symbols s) (lent s) (λ p. p .n) (λ p. p .n) (encodeRest (symbols s)) (code k) (opens k .code) (parameters k .n) (parameters k .n) refl refl (c .before .buffers-fit .result) (c .before .buffers-fit .ensures) (c .if1 .taken))
 
 symbols-fit-requires : tie.Need-symbols-fit-requires
 symbols-fit-requires c κs =

@@ -1,0 +1,43 @@
+-- What encoding, decoding and recovery begin with: the refusals of the description, then 8 for the input x and the output buffer.
+-- Over the answer of opening, and over the lengths that the opened code or stack asks for.
+use mathlib.Core.Path.{_≡_, sym, subst, _∙_}
+use mathlib.Core.Bool.{Bool, true, false, _&&_, not}
+use mathlib.Core.List.{List}
+use Prim.Native.Nat.{ℕ}
+use lib.Dec.{T, eqb, eqb→eq}
+use lib.ListN.{length}
+use borrow.Author.Tests.{not-true, not-false}
+use Rattle.definitions.specs.Answers.{Answer, given, refused, Result, refuse_when_else_, result, after}
+use Rattle.definitions.proofs.Tests.{and-left, and-right}
+use Rattle.answers.specs.Answering.{leaves}
+
+-- what holds of the definition's answer and buffer holds of those that equal them
+pub carried : {A : Type 0} (Q : Answer A → List ℕ → Type 0) (r : Result A) {a : Answer A} {out : List ℕ} → leaves a out ≡ r → Q (r .answer) (r .out) → Q a out
+carried {A} Q r e h = subst (λ (u : Result A). Q (u .answer) (u .out)) (sym e) h
+
+-- buffers that fit have their lengths
+pub lengths : (i r o w : ℕ) (t : Bool) → t ≡ (eqb i r && eqb o w) → not t ≡ false → (i ≡ r) × (o ≡ w)
+lengths i r o w t e h =
+    let g : T (eqb i r && eqb o w) = subst T (sym (not-false t h) ∙ e) tt in
+    (eqb→eq i r (and-left (eqb i r) (eqb o w) g), eqb→eq o w (and-right (eqb i r) (eqb o w) g))
+
+module _ {A O : Type 0} (opening : Answer O) (x out : List ℕ) (read written : O → ℕ) (rest : O → Answer (A × List ℕ)) where
+  abbrev pub operation : Result A
+  operation =
+      result
+      (after opening λ o.
+      refuse 8 when not (eqb (length x) (read o) && eqb (length out) (written o)) else
+      rest o)
+      out
+
+  pub not-open : (k : ℕ) → opening ≡ refused k → leaves (refused k) out ≡ operation
+  not-open k e = rw e
+
+  -- t is the answer of the test of both buffers
+  module _ (o : O) (opens : opening ≡ given o) (i j : ℕ) (i-is : i ≡ read o) (j-is : j ≡ written o) (t : Bool) (tested : t ≡ (eqb (length x) i && eqb (length out) j)) where
+    pub wrong-buffer : not t ≡ true → leaves (refused 8) out ≡ operation
+    wrong-buffer h = rw (opens, ← i-is, ← j-is, ← tested, not-true t h)
+
+    -- what is left once both fit
+    pub both-fit : not t ≡ false → result (rest o) out ≡ operation
+    both-fit h = rw (opens, ← i-is, ← j-is, ← tested, not-false t h)
