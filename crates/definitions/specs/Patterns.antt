@@ -61,9 +61,9 @@ Smaller a b = (a .0 < b .0) ⊎ ((a .0 ≡ b .0) × (a .1 < b .1))
 
 -- lexicographically smaller
 abbrev pub Lower : List (ℕ × ℕ) → List (ℕ × ℕ) → Type 0
-Lower as′ [] = ⊥
-Lower [] (b ∷ bs) = Unit {0}
-Lower (a ∷ as′) (b ∷ bs) = Smaller a b ⊎ ((a ≡ b) × Lower as′ bs)
+Lower xs [] = ⊥
+Lower [] (y ∷ ys) = Unit {0}
+Lower (x ∷ xs) (y ∷ ys) = Smaller x y ⊎ ((x ≡ y) × Lower xs ys)
 
 -- the order of patterns: fewer risen cells; then the risen cells from cell 1 upward, each with its magnitude
 abbrev pub Before : List ℕ → List ℕ → Type 0
