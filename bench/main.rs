@@ -8,6 +8,7 @@ use std::time::Instant;
 extern "C" {
     fn levels_test(body: *const u8, body_len: usize) -> usize;
     fn levels_decode(body: *const u8, body_len: usize, word: *const u8, word_len: usize, out: *mut u8, out_len: usize) -> usize;
+    fn levels_decode_stack(body: *const u8, body_len: usize, word: *const u8, word_len: usize, out: *mut u8, out_len: usize) -> usize;
 }
 
 fn ours_test(body: &[u8]) -> usize {
@@ -17,6 +18,14 @@ fn ours_test(body: &[u8]) -> usize {
 /// The count, or 256 and the refusal's number.
 fn ours_decode(body: &[u8], word: &[u8], out: &mut [u8]) -> usize {
     unsafe { levels_decode(body.as_ptr(), body.len(), word.as_ptr(), word.len(), out.as_mut_ptr(), out.len()) }
+}
+
+fn ours_decode_stack(body: &[u8], word: &[u8], out: &mut [u8]) -> usize {
+    unsafe { levels_decode_stack(body.as_ptr(), body.len(), word.as_ptr(), word.len(), out.as_mut_ptr(), out.len()) }
+}
+
+fn plain_decode_stack(body: &[u8], word: &[u8], out: &mut [u8]) -> usize {
+    plain::decode_stack(body, word, out).unwrap_or_else(|number| 256 + number as usize)
 }
 
 fn plain_decode(body: &[u8], word: &[u8], out: &mut [u8]) -> usize {
@@ -118,14 +127,55 @@ fn report(name: &str, bound: f64, ours: f64, plain: f64) {
     println!("{name:<58} {ours:>9.0} ns {plain:>9.0} ns {ratio:>6.2} {bound:>5.2}{note}");
 }
 
-fn decode_case(name: &str, bound: f64, body: &[u8], word: &[u8]) {
+type Decode = fn(&[u8], &[u8], &mut [u8]) -> usize;
+
+fn compare(name: &str, bound: f64, ours: Decode, plain: Decode, body: &[u8], word: &[u8]) {
     let n = word.len();
     let (mut a, mut b) = (vec![0; n], vec![0; n]);
-    assert_eq!(ours_decode(body, word, &mut a), plain_decode(body, word, &mut b), "{name}");
+    assert_eq!(ours(body, word, &mut a), plain(body, word, &mut b), "{name}");
     assert_eq!(a, b, "{name}");
-    let ours = time(|| ours_decode(black_box(body), black_box(word), &mut a));
-    let plain = time(|| plain_decode(black_box(body), black_box(word), &mut b));
+    let ours = time(|| ours(black_box(body), black_box(word), &mut a));
+    let plain = time(|| plain(black_box(body), black_box(word), &mut b));
     report(name, bound, ours, plain);
+}
+
+fn decode_case(name: &str, bound: f64, body: &[u8], word: &[u8]) {
+    compare(name, bound, ours_decode, plain_decode, body, word);
+}
+
+/// The matrix of a binary code of 64 cells and 12 check cells that tells all pairs of errors apart (Zetterberg's, shortened):
+/// the column of cell j is a power of an element of order 65 in the field of 4096, brought to unit columns at the check cells.
+fn zetterberg() -> Vec<u8> {
+    let times_x = |v: u32| if v & 1 << 11 != 0 { v << 1 ^ 0b1_0000_0101_0011 } else { v << 1 };
+    let power = |k: u32| (0..k).fold(1u32, |v, _| times_x(v));
+    let columns: Vec<u32> = (0..64).map(|j| power(63 * j % 4095)).collect();
+    let mut rows: Vec<u64> = (0..12).map(|k| (0..64).fold(0, |row, j| row | ((columns[j] >> k & 1) as u64) << j)).collect();
+    for k in 0..12 {
+        let pivot = (k..12).find(|&i| rows[i] >> (52 + k) & 1 == 1).expect("the check columns are independent");
+        rows.swap(k, pivot);
+        for i in (0..12).filter(|&i| i != k) {
+            if rows[i] >> (52 + k) & 1 == 1 {
+                rows[i] ^= rows[k];
+            }
+        }
+    }
+    rows.iter().flat_map(|row| (0..52).map(move |j| (row >> j & 1) as u8)).collect()
+}
+
+/// Six binary planes of 64 cells, each accepted for two errors; the word has two wrong digits in each, late in the order.
+fn stack_case() {
+    let matrix = zetterberg();
+    let mut body = vec![64, 6];
+    for _ in 0..6 {
+        body.extend([2, 12, 2]);
+        body.extend(&matrix);
+    }
+    let mut word = [0; 64];
+    for j in 0..6 {
+        word[62 - 2 * j] += 1 << j;
+        word[63 - 2 * j] += 1 << j;
+    }
+    compare("digit planes, 64 cells, six planes, t 2", 0.7, ours_decode_stack, plain_decode_stack, &body, &word);
 }
 
 fn test_case(name: &str, body: &[u8]) {
@@ -153,6 +203,7 @@ fn main() {
         let [n, r, _, m, l, t] = fields;
         decode_case(&format!("decode refused, n {n} r {r} M {m} l {l} t {t}"), 0.6, &body, &word);
     }
+    stack_case();
     test_case("test, Golay, P 2048", &golay);
     test_case("test, n 45 r 12 M 5 l 2 t 2, P 4051", &wide);
     test_case("test, n 64 r 12 M 64 l 63 t 1, P 4033", &columns_from_one(&mut numbers, [64, 12, 64, 64, 63, 1]));

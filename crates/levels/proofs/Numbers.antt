@@ -1,4 +1,4 @@
--- Answers of the operations on codes, as numbers.
+-- Answers of the operations, as numbers.
 use mathlib.Core.Path.{_≡_, sym, ap, _∙_}
 use mathlib.Core.List.{List}
 use Prim.Native.Nat.{ℕ, _≤_}
@@ -31,6 +31,6 @@ number-small NotACodeword = omega arith
 pub test-number : (a k : TestAnswer) (r : Answer (Unit {0})) → a ≡ k → testedAs a ≡ r → testNumber (testedAs k) ≡ testNumber r
 test-number a k r e h = ap testNumber (sym (ap testedAs e) ∙ h)
 
-pub read-number : (a k : ReadAnswer) (out : List ℕ) (r : Result ℕ) → a ≡ k → leaves (decodedAs a) out ≡ r → (readNumber (decodedAs k) ≡ readNumber (r .answer)) × (out ≡ r .out)
-read-number a k out r e h =
-    (ap readNumber (sym (ap decodedAs e) ∙ ap (λ (u : Result ℕ). u .answer) h), ap (λ (u : Result ℕ). u .out) h)
+pub read-number : {E : Type 0} (as-answer : E → Answer ℕ) (a k : E) (out : List ℕ) (r : Result ℕ) → a ≡ k → leaves (as-answer a) out ≡ r → (readNumber (as-answer k) ≡ readNumber (r .answer)) × (out ≡ r .out)
+read-number as-answer a k out r e h =
+    (ap readNumber (sym (ap as-answer e) ∙ ap (λ (u : Result ℕ). u .answer) h), ap (λ (u : Result ℕ). u .out) h)

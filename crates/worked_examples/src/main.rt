@@ -70,6 +70,36 @@ fn decode(letter: &[u8], body: &[u8], word: &[u8], out: &mut [u8]) {
     text(b"\n");
 }
 
+fn decode_stack(letter: &[u8], body: &[u8], word: &[u8], out: &mut [u8]) {
+    text(letter);
+    let a = stack_decoder::decode_stack(body, word, out);
+    match a {
+        stack_decoder::ReadAnswer::Count(count) => {
+            text(b" count ");
+            number(count);
+            text(b" levels");
+        }
+        stack_decoder::ReadAnswer::NothingInPlane(plane) => {
+            text(b" refused 11 plane ");
+            number(plane);
+            text(b" buffer");
+        }
+        stack_decoder::ReadAnswer::Refused(x) => {
+            refused(x);
+            text(b" buffer");
+        }
+    }
+    numbers(out);
+    text(b"\n");
+}
+
+fn stacks() {
+    let s = [3u8, 3, 2, 2, 1, 1, 1, 2, 2, 1, 1, 1, 2, 2, 1, 1, 1];
+    decode_stack(b"i", &s, &[5, 5, 4], &mut [9; 3]);
+    decode_stack(b"j", &s, &[0, 1, 7], &mut [9; 3]);
+    decode_stack(b"k", &[2, 1, 2, 1, 0, 1], &[0, 1], &mut [9; 2]);
+}
+
 fn codes_r() {
     let r = [5u8, 4, 8, 2, 1, 2, 1, 1, 1, 1];
     encode(b"a", &r, &[3, 2, 1, 0, 0], &mut [9; 5]);
@@ -139,6 +169,7 @@ fn main() {
         &[7, 7, 7, 7],
         &mut [9; 4],
     );
+    stacks();
     test(b"l", &[45, 0, 3, 3, 2, 2]);
     test(b"l", &[46, 0, 3, 3, 2, 2]);
 }

@@ -1,3 +1,4 @@
+use Rattle.codec.specs.Codec.{decodedAs}
 use mathlib.Core.Path.{ap, _∙_}
 use Prim.Native.Nat.{ℕ, _+_}
 use native.Mathlib.Omega.{arith}
@@ -25,14 +26,14 @@ same-length : tie.Need-same-length
 same-length c = search needs
 
 returns : tie.Need-returns
-returns c = read-number _ _ _ _ (c .before .a .given .1) (c .before .before .before .before .before .decode .ensures .0)
+returns c = read-number decodedAs _ _ _ _ (c .before .a .given .1) (c .before .before .before .before .before .decode .ensures .0)
 
 same-length-2 : tie.Need-same-length-2
 same-length-2 c = search needs
 
 returns-2 : tie.Need-returns-2
 returns-2 c =
-    let r = read-number _ _ _ _ (c .before .before .a2 .given .1) (c .before .before .before .before .before .before .decode .ensures .0) in
+    let r = read-number decodedAs _ _ _ _ (c .before .before .a2 .given .1) (c .before .before .before .before .before .before .decode .ensures .0) in
     (ap (λ (k : ℕ). 256 + k) (c .refusal-number .ensures) ∙ r .0, r .1)
 
 pub levels-decode-spec : {M : Type 1} → statement M
