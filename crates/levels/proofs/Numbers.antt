@@ -7,10 +7,8 @@ use Rattle.definitions.specs.Answers.{Answer, Result}
 use Rattle.opening.specs.Opening.{refusalNumber}
 use Rattle.opening.specs.declared.Refusal.{Refusal}
 use Rattle.opening.specs.declared.Refusal.the-variants.{TooShort, OutOfRange, WrongLength, EntryTooLarge, TooManyPatterns, NotAccepted, TooManyLevels, WrongBuffer, SymbolTooLarge, LevelTooLarge, NoCodewordInReach, NotACodeword}
-use Rattle.codec.specs.Codec.{decodedAs}
 use Rattle.answers.specs.Answering.{testedAs, leaves}
 use Rattle.answers.specs.declared.TestAnswer.{TestAnswer}
-use Rattle.codec.specs.declared.ReadAnswer.{ReadAnswer}
 use Rattle.levels.specs.Levels.{testNumber, readNumber}
 
 pub number-small : (x : Refusal) → refusalNumber x ≤ 12

@@ -12,11 +12,7 @@ use borrow.Author.Tests.{eq-eqb, ne-eqb, eqb-true}
 use Rattle.definitions.specs.Words.{at, upFrom}
 use Rattle.words.proofs.Cells.{at-past, at-upFrom, length-upFrom}
 use Rattle.search.specs.declared.Risen.{Risen}
-use Rattle.search.specs.Search.{magnitudeOf, orElse, magnitudeAt, wordOf, added, Chosen}
-
--- no cell chosen
-abbrev pub unrisen : Risen
-unrisen = record { c1 = 0; m1 = 0; c2 = 0; m2 = 0; c3 = 0; m3 = 0 }
+use Rattle.search.specs.Search.{magnitudeOf, orElse, magnitudeAt, wordOf, unrisen, added, Chosen}
 
 pub of-here : (c g i : ℕ) → c ≡ i → magnitudeOf c g i ≡ g
 of-here c g i e = simp (eq-eqb c i e)
@@ -83,6 +79,10 @@ added-none k c free i =
 pub unrisen-at : (i : ℕ) → magnitudeAt unrisen i ≡ 0
 unfolding magnitudeAt
 unrisen-at i = simp (of-none 0 i)
+
+pub unchosen : (k : Risen) (i : ℕ) → eqb (k .c1) i ≡ false → eqb (k .c2) i ≡ false → eqb (k .c3) i ≡ false → magnitudeAt k i ≡ 0
+unfolding magnitudeAt
+unchosen k i e1 e2 e3 = simp (e1, e2, e3)
 
 -- words
 pub length-word : (n : ℕ) (k : Risen) → length (wordOf n k) ≡ n

@@ -17,9 +17,9 @@ use Rattle.words.proofs.Remainders.{regroup, cong-add}
 use Rattle.code.proofs.Syndromes.{syndrome-below}
 use Rattle.syndrome.proofs.Columns.{sum-zero, column-past}
 use Rattle.search.specs.declared.Risen.{Risen}
-use Rattle.search.specs.Search.{magnitudeOf, magnitudeAt, wordOf, Remains, lessModulo}
+use Rattle.search.specs.Search.{magnitudeOf, magnitudeAt, wordOf, unrisen, Remains, lessModulo}
 use Rattle.syndrome.specs.Columns.{column, Syndrome}
-use Rattle.search.proofs.Choices.{unrisen, of-here, of-other, word-at, word-past, unrisen-at}
+use Rattle.search.proofs.Choices.{of-here, of-other, word-at, word-past, unrisen-at}
 
 -- an entry of the syndrome before it is taken modulo M, of levels by cell
 abbrev pub total : Code → (ℕ → ℕ) → ℕ → ℕ
@@ -190,20 +190,23 @@ remains-same p y k k′ rest e s = record {
   sum = λ i. ap (λ (x : List ℕ). (at rest i + syndromeEntry p x i) % p .M) (sym e) ∙ s .sum i;
 }
 
+blank : (n j : ℕ) → at (wordOf n unrisen) j ≡ 0
+blank n j = step (decLt j n)
+  where
+    step : Dec (j < n) → at (wordOf n unrisen) j ≡ 0
+    step (yes b) = word-at n unrisen j b ∙ unrisen-at j
+    step (no b) = word-past n unrisen j (omega arith)
+
+pub unrisen-entry : (p : Code) → 0 < p .M → (i : ℕ) → syndromeEntry p (wordOf (p .n) unrisen) i ≡ 0
+unrisen-entry p h i = entry-none p (wordOf (p .n) unrisen) h (blank (p .n)) i
+
 pub remains-all : (p : Code) (y target : List ℕ) → 0 < p .M → Syndrome p y target → Remains p y unrisen target
 unfolding syndromeEntry
 remains-all p y target h s = record {
   below = λ i. subst (λ (v : ℕ). v < p .M) (sym (s i)) (syndrome-below p h y i);
-  sum = λ i. ap₂ (λ a b. (a + b) % p .M) (s i) (entry-none p (wordOf (p .n) unrisen) h (blank (p .n)) i)
+  sum = λ i. ap₂ (λ a b. (a + b) % p .M) (s i) (unrisen-entry p h i)
       ∙ ap (λ (v : ℕ). v % p .M) (add-zero (syndromeEntry p y i)) ∙ mod-mod (total p (at y) i) (p .M);
 }
-  where
-    blank : (n j : ℕ) → at (wordOf n unrisen) j ≡ 0
-    blank n j = step (decLt j n)
-      where
-        step : Dec (j < n) → at (wordOf n unrisen) j ≡ 0
-        step (yes b) = word-at n unrisen j b ∙ unrisen-at j
-        step (no b) = word-past n unrisen j (omega arith)
 
 pub less-none : (M a : ℕ) → lessModulo M a 0 ≡ a
 less-none M a = simp (le-ltb a 0 (omega arith)) (sub-zero a)

@@ -1,14 +1,16 @@
 -- What the tests of a pattern show, cell by cell and entry by entry.
-use mathlib.Core.Path.{_≡_, refl, sym, ap, _∙_, subst}
+use mathlib.Core.Path.{_≡_, refl, sym, ap, ap₂, _∙_, subst}
 use mathlib.Core.Bool.{Bool, true, false, _&&_}
 use mathlib.Core.List.{List, [], _∷_, map}
 use Prim.Native.Nat.{ℕ, zero, suc, _+_, _-_, _≤_, _<_, _%_}
 use native.Mathlib.Nat.{zero-add}
+use native.Mathlib.Numerals.{add-one}
 use native.Mathlib.Decide.{decLt}
 use native.Mathlib.Omega.{arith}
-use lib.Dec.{T, eqb}
-use lib.ListN.{length, drop, length-drop}
-use lib.Seq.{getD-drop}
+use lib.Dec.{T, eqb, ltb}
+use lib.ListN.{length, drop, length-drop, drop-of-length-le}
+use lib.Seq.{getD-drop, drop-cons}
+use borrow.Author.Tests.{ltb-true, ltb-false, le-ltb, eqb-true, eq-eqb, ne-eqb}
 use Rattle.definitions.specs.Words.{at, upFrom, subtract, nowhereAbove, allBelow, allZero, EachCell, EachPair}
 use Rattle.definitions.specs.Codes.{Code, dataCells}
 use Rattle.definitions.specs.Codewords.{syndromeEntry, syndrome, ceiling, isCodeword}
@@ -18,7 +20,7 @@ use Rattle.words.proofs.Cells.{at-past, at-map2, length-map2, each-at, at-each,
 use Rattle.words.proofs.Remainders.{cancel}
 use Rattle.search.specs.declared.Risen.{Risen}
 use Rattle.search.specs.Search.{magnitudeAt, wordOf}
-use Rattle.search.proofs.Choices.{word-at, length-word}
+use Rattle.search.proofs.Choices.{word-at, word-past, length-word, unchosen}
 use Rattle.code.proofs.Syndromes.{syndrome-below, syndrome-add}
 
 pub is-true : (b : Bool) → T b → b ≡ true
@@ -144,10 +146,29 @@ module _ (p : Code) (y : List ℕ) (k : Risen) (ly : length y ≡ p .n) where
   at-word : (i : ℕ) → i < p .n → at (wordOf (p .n) k) i ≡ magnitudeAt k i
   at-word i h = word-at (p .n) k i h
 
-  pub above-fails : (i v g : ℕ) → i < p .n → v ≡ at y i → g ≡ magnitudeAt k i → v < g → false ≡ fits p y (wordOf (p .n) k)
-  above-fails i v g h ev eg b = sym (is-false (fits p y (wordOf (p .n) k)) (λ t.
-      let c = fits-each p y (wordOf (p .n) k) ly (length-word (p .n) k) (is-true (fits p y (wordOf (p .n) k)) t) i h .0 in
-      omega (arith, at-word i h)))
+  -- the pattern is above the word at cell i
+  pub above-fails : (i : ℕ) (b : Bool) → b ≡ ltb (at y i) (at (wordOf (length y) k) i) → b ≡ true → false ≡ fits p y (wordOf (p .n) k)
+  above-fails i b e t = sym (is-false (fits p y (wordOf (p .n) k)) (λ f. step f (decLt i (p .n))))
+    where
+      above : at y i < at (wordOf (p .n) k) i
+      above = ltb-true (at y i) (at (wordOf (p .n) k) i) (ap (λ (n : ℕ). ltb (at y i) (at (wordOf n k) i)) (sym ly) ∙ sym e ∙ t)
+
+      step : T (fits p y (wordOf (p .n) k)) → Dec (i < p .n) → ⊥
+      step f (yes h) = let c = fits-each p y (wordOf (p .n) k) ly (length-word (p .n) k) (is-true (fits p y (wordOf (p .n) k)) f) i h .0 in omega (arith, above)
+      step f (no h) = omega (arith, above, word-past (p .n) k i (omega arith))
+
+  -- a pattern that is not above the word at the cells chosen is so nowhere
+  pub chosen-under : (b1 b2 b3 : Bool) → b1 ≡ ltb (at y (k .c1)) (at (wordOf (length y) k) (k .c1)) → b1 ≡ false → b2 ≡ ltb (at y (k .c2)) (at (wordOf (length y) k) (k .c2)) → b2 ≡ false → b3 ≡ ltb (at y (k .c3)) (at (wordOf (length y) k) (k .c3)) → b3 ≡ false → (i : ℕ) → i < p .n → magnitudeAt k i ≤ at y i
+  chosen-under b1 b2 b3 e1 f1 e2 f2 e3 f3 i h = step (eqb (k .c1) i) (eqb (k .c2) i) (eqb (k .c3) i) refl refl refl
+    where
+      here : (c : ℕ) → ltb (at y c) (at (wordOf (length y) k) c) ≡ false → eqb c i ≡ true → magnitudeAt k i ≤ at y i
+      here c u e = subst (λ (x : ℕ). x ≤ at y i) (at-word i h) (ltb-false (at y i) (at (wordOf (p .n) k) i) (ap (λ (n : ℕ). ltb (at y i) (at (wordOf n k) i)) (sym ly) ∙ ap (λ (j : ℕ). ltb (at y j) (at (wordOf (length y) k) j)) (sym (eqb-true c i e)) ∙ u))
+
+      step : (d1 d2 d3 : Bool) → eqb (k .c1) i ≡ d1 → eqb (k .c2) i ≡ d2 → eqb (k .c3) i ≡ d3 → magnitudeAt k i ≤ at y i
+      step true d2 d3 q1 q2 q3 = here (k .c1) (sym e1 ∙ f1) q1
+      step false true d3 q1 q2 q3 = here (k .c2) (sym e2 ∙ f2) q2
+      step false false true q1 q2 q3 = here (k .c3) (sym e3 ∙ f3) q3
+      step false false false q1 q2 q3 = rw (unchosen k i q1 q2 q3) (omega arith)
 
   pub ceiling-fails : (i v g u : ℕ) → i < p .n → v ≡ at y i → g ≡ magnitudeAt k i → dataCells p ≤ i → u ≡ ceiling p → u ≤ v - g → false ≡ fits p y (wordOf (p .n) k)
   ceiling-fails i v g u h ev eg w eu b = sym (is-false (fits p y (wordOf (p .n) k)) (λ t.
@@ -157,8 +178,42 @@ module _ (p : Code) (y : List ℕ) (k : Risen) (ly : length y ≡ p .n) where
       below : at (wordOf (p .n) k) i ≡ magnitudeAt k i → at y i - at (wordOf (p .n) k) i < ceiling p → u ≡ ceiling p → ⊥
       below q c eu = let d : at y i - at (wordOf (p .n) k) i < u = rw eu c in omega arith
 
-  pub cells-fit :
-      0 < p .M → EachCell (λ v. v < p .q) y → sameSyndrome p y (wordOf (p .n) k) ≡ true → (u : ℕ) → u ≡ ceiling p
-      → ((i : ℕ) → i < p .n → (magnitudeAt k i ≤ at y i) × (dataCells p ≤ i → at y i - magnitudeAt k i < u)) → true ≡ fits p y (wordOf (p .n) k)
-  cells-fit m levels same u eu h =
-      sym (fits-all p y (wordOf (p .n) k) ly (length-word (p .n) k) m levels same (λ i b. (rw (at-word i b) (h i b .0), λ w. rw (at-word i b, ← eu) (h i b .1 w))))
+  module _ (m : 0 < p .M) (levels : EachCell (λ v. v < p .q) y) (same : sameSyndrome p y (wordOf (p .n) k) ≡ true) (under : (i : ℕ) → i < p .n → magnitudeAt k i ≤ at y i) where
+    pub checks-below : (u : ℕ) → u ≡ ceiling p → ((i : ℕ) → i < p .n → dataCells p ≤ i → at y i - magnitudeAt k i < u) → true ≡ fits p y (wordOf (p .n) k)
+    checks-below u eu h =
+        sym (fits-all p y (wordOf (p .n) k) ly (length-word (p .n) k) m levels same (λ i b. (rw (at-word i b) (under i b), λ w. rw (at-word i b, ← eu) (h i b w))))
+
+    -- the ceiling is q, and every level is below it
+    pub no-ceiling : (u : ℕ) → u ≡ ceiling p → u ≡ p .q → true ≡ fits p y (wordOf (p .n) k)
+    no-ceiling u eu eq = checks-below u eu (λ i b w. let l : at y i < p .q = each-at (λ v. v < p .q) y levels i (omega arith) in omega arith)
+
+-- the test of one cell
+module _ (y : List ℕ) (k : Risen) (i : ℕ) where
+  pub above-past : length y ≤ i → false ≡ ltb (at y i) (at (wordOf (length y) k) i)
+  above-past h = sym (le-ltb (at y i) (at (wordOf (length y) k) i) (omega (arith, word-past (length y) k i h)))
+
+  pub above-at : i < length y → (v g : ℕ) → v ≡ at y i → g ≡ magnitudeAt k i → ltb v g ≡ ltb (at y i) (at (wordOf (length y) k) i)
+  above-at h v g ev eg = ap₂ ltb ev (eg ∙ sym (word-at (length y) k i h))
+
+-- entries that are all 0, one after the other
+module _ (s : List ℕ) (i : ℕ) (h : i < length s) where
+  zeros-split : drop i s ≡ at s i ∷ drop (i + 1) s
+  zeros-split = rw (add-one) (drop-cons s i 0 h)
+
+  pub zeros-hit : (at s i ≡ 0 → ⊥) → allZero (drop i s) ≡ false
+  zeros-hit n = rw (zeros-split, ne-eqb (at s i) 0 n)
+
+  pub zeros-miss : at s i ≡ 0 → allZero (drop i s) ≡ allZero (drop (i + 1) s)
+  zeros-miss e = rw (zeros-split, eq-eqb (at s i) 0 e)
+
+pub zeros-end : (s : List ℕ) (i : ℕ) → length s ≤ i → allZero (drop i s) ≡ true
+zeros-end s i h = rw (drop-of-length-le s h)
+
+pub zeros-each : (s : List ℕ) → T (allZero s) → (i : ℕ) → at s i ≡ 0
+zeros-each [] h i = refl
+zeros-each (x ∷ s) h zero = eqb-true x 0 (is-true (eqb x 0) (and-left (eqb x 0) (allZero s) h))
+zeros-each (x ∷ s) h (suc i) = zeros-each s (and-right (eqb x 0) (allZero s) h) i
+
+pub each-zeros : (s : List ℕ) → ((i : ℕ) → at s i ≡ 0) → T (allZero s)
+each-zeros [] h = tt
+each-zeros (x ∷ s) h = and-both (eqb x 0) (allZero s) (eq-test x 0 (h 0)) (each-zeros s (λ i. h (suc i)))

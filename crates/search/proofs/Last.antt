@@ -6,7 +6,8 @@ use Prim.Native.Nat.{ℕ, _+_, _*_, _-_, _%_, _≤_, _<_}
 use native.Mathlib.Nat.{mod-add-mod, add-mul, one-mul}
 use native.Mathlib.Decide.{decLt}
 use native.Mathlib.Omega.{arith}
-use Rattle.definitions.specs.Words.{at}
+use lib.Dec.{T}
+use Rattle.definitions.specs.Words.{at, allZero}
 use Rattle.definitions.specs.Codes.{Code}
 use Rattle.definitions.specs.Codewords.{syndromeEntry}
 use Rattle.definitions.specs.Decoding.{fits, sameSyndrome}
@@ -14,13 +15,13 @@ use Rattle.opening.specs.declared.Parameters.{Parameters}
 use Rattle.opening.specs.Opening.{codeWith}
 use Rattle.search.specs.declared.Risen.{Risen}
 use Rattle.search.specs.declared.Sought.the-variants.{Hit}
-use Rattle.search.specs.Search.{magnitudeOf, magnitudeAt, wordOf, added, lessModulo, Received, Chosen, Remains, testOf, magnitudesFrom, seek, soughtAs}
-use Rattle.syndrome.specs.Columns.{column}
+use Rattle.search.specs.Search.{magnitudeOf, magnitudeAt, wordOf, unrisen, added, lessModulo, Received, Chosen, Remains, testOf, magnitudesFrom, seek, soughtAs}
+use Rattle.syndrome.specs.Columns.{column, Syndrome}
 use Rattle.search.proofs.Choices.{of-more, added-at, added-none, length-word, word-same, chosen-added}
 use Rattle.syndrome.proofs.Columns.{column-below, entry-past}
-use Rattle.search.proofs.Columns.{Raised, column-hit, column-only, remains-lowered, remains-same}
+use Rattle.search.proofs.Columns.{Raised, unrisen-entry, column-hit, column-only, remains-lowered, remains-same}
 use Rattle.search.proofs.Order.{mag-more, all-chosen, one-hit, one-miss}
-use Rattle.search.proofs.Fits.{same-all, same-not, fits-not}
+use Rattle.search.proofs.Fits.{is-true, is-false, same-all, same-each, same-not, fits-not, zeros-each, each-zeros}
 
 pub test-not : (b : Bool) (p : Code) (y e : List ℕ) → sameSyndrome p y e ≡ false → false ≡ testOf b p y e
 test-not true p y e s = sym (fits-not p y e s)
@@ -52,10 +53,51 @@ module _ (q : Parameters) (A y : List ℕ) (g : Received q A y) (k : Risen) (res
           (entry-past (codeWith q A) w i (g .ready .matrix) (length-word (q .n) (added k c d)) le m (omega arith)
           ∙ sym (entry-past (codeWith q A) y i (g .ready .matrix) (g .long) le m (omega arith))))
 
+  -- and with the word's syndrome each is
+  pub column-all : sameSyndrome (codeWith q A) y (wordOf (q .n) (added k c d)) ≡ true → (i : ℕ) → (d * column (codeWith q A) i c) % q .m ≡ at rest i
+  column-all e i = column-only (codeWith q A) y k rest s c d (added k c d) h raised i (entry (decLt i (q .r)))
+    where
+      w : List ℕ
+      w = wordOf (q .n) (added k c d)
+
+      m : 0 < q .m
+      m = let z = g .ready .m-low in omega arith
+
+      le : q .r ≤ q .n
+      le = let z = g .ready .r-below in omega arith
+
+      entry : Dec (i < q .r) → syndromeEntry (codeWith q A) w i ≡ syndromeEntry (codeWith q A) y i
+      entry (yes l) = same-each (codeWith q A) y w e i l
+      entry (no l) =
+          entry-past (codeWith q A) w i (g .ready .matrix) (length-word (q .n) (added k c d)) le m (omega arith)
+          ∙ sym (entry-past (codeWith q A) y i (g .ready .matrix) (g .long) le m (omega arith))
+
   -- the column is what remains
   pub column-same : ((i : ℕ) → i < q .r → (d * column (codeWith q A) i c) % q .m ≡ at rest i) → sameSyndrome (codeWith q A) y (wordOf (q .n) (added k c d)) ≡ true
   column-same e =
       same-all (codeWith q A) y (wordOf (q .n) (added k c d)) (λ i l. column-hit (codeWith q A) y k rest s c d (added k c d) h raised i (e i l))
+
+-- the empty pattern has the syndrome whose entries are all 0
+module _ (q : Parameters) (A y : List ℕ) (g : Received q A y) (target : List ℕ) (s : Syndrome (codeWith q A) y target) (b : Bool) (e : b ≡ allZero target) where
+  m : 0 < q .m
+  m = let z = g .ready .m-low in omega arith
+
+  pub zero-same : b ≡ true → sameSyndrome (codeWith q A) y (wordOf (q .n) unrisen) ≡ true
+  zero-same t =
+      same-all (codeWith q A) y (wordOf (q .n) unrisen)
+      (λ i l. unrisen-entry (codeWith q A) m i ∙ sym (zeros-each target (subst T (sym (sym e ∙ t)) tt) i) ∙ s i)
+
+  pub zero-differs : b ≡ false → sameSyndrome (codeWith q A) y (wordOf (q .n) unrisen) ≡ false
+  zero-differs t = is-false (sameSyndrome (codeWith q A) y (wordOf (q .n) unrisen)) (λ same.
+      let z : T (allZero target) = each-zeros target (λ i. s i ∙ entry same i (decLt i (q .r))) in
+      subst T (sym e ∙ t) z)
+    where
+      le : q .r ≤ q .n
+      le = let z = g .ready .r-below in omega arith
+
+      entry : T (sameSyndrome (codeWith q A) y (wordOf (q .n) unrisen)) → (i : ℕ) → Dec (i < q .r) → syndromeEntry (codeWith q A) y i ≡ 0
+      entry same i (yes l) = sym (same-each (codeWith q A) y (wordOf (q .n) unrisen) (is-true (sameSyndrome (codeWith q A) y (wordOf (q .n) unrisen)) same) i l) ∙ unrisen-entry (codeWith q A) m i
+      entry same i (no l) = entry-past (codeWith q A) y i (g .ready .matrix) (g .long) le m (omega arith)
 
 pub codeword-decides : (p : Code) (y e : List ℕ) (b r : Bool) → b ≡ true → r ≡ fits p y e → r ≡ testOf b p y e
 codeword-decides p y e b r eb er = rw eb er
@@ -65,7 +107,7 @@ syndrome-decides p y e b eb er = rw eb (sym er)
 
 -- the last choice, magnitude by magnitude
 module _ (p : Code) (k : Risen) (cell mag : ℕ) (ch : Chosen k 1 cell) (h : cell < p .n) where
-  last-split : mag < p .l → magnitudesFrom p k 1 cell mag ≡ (wordOf (p .n) (added k cell (mag + 1)) ∷ []) ++ magnitudesFrom p k 1 cell (mag + 1)
+  pub last-split : mag < p .l → magnitudesFrom p k 1 cell mag ≡ (wordOf (p .n) (added k cell (mag + 1)) ∷ []) ++ magnitudesFrom p k 1 cell (mag + 1)
   last-split g =
       mag-more p k 1 cell mag g ch (omega arith)
       ∙ ap (λ (l : List (List ℕ)). l ++ magnitudesFrom p k 1 cell (mag + 1))

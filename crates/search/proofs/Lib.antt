@@ -5,3 +5,4 @@ pub mod Order
 pub mod Last
 pub mod Steps
 pub mod Whole
+pub mod Keys

@@ -18,8 +18,8 @@ use Rattle.code.proofs.Acceptance.{magnitude-pos, patterns-number}
 use Rattle.search.specs.declared.Risen.{Risen}
 use Rattle.search.specs.declared.Sought.the-variants.{Hit}
 use Rattle.search.specs.declared.Found.the-variants.{Pattern, Nothing}
-use Rattle.search.specs.Search.{wordOf, added, continuing, cellsFrom, seek, pickSought, soughtAs, foundWord, CountsOf}
-use Rattle.search.proofs.Choices.{unrisen, unrisen-at, added-none, word-same}
+use Rattle.search.specs.Search.{wordOf, unrisen, continuing, cellsFrom, seek, pickSought, soughtAs, foundWord, CountsOf}
+use Rattle.search.proofs.Choices.{unrisen-at}
 use Rattle.search.proofs.Order.{continued-some, seek-append, continued, all-chosen}
 
 -- what is found is in the list
@@ -152,6 +152,3 @@ module _ (p : Code) (f : List ℕ → Bool) where
   pub unrisen-weighs : f (wordOf (p .n) unrisen) ≡ true → 0 ≡ weight (wordOf (p .n) unrisen)
   unrisen-weighs h =
       sym (found-weight (p .l) 0 (p .n) f 0 (wordOf (p .n) unrisen) 1 (unrisen-passes p f h))
-
-pub unrisen-same : (n : ℕ) → wordOf n (added unrisen 0 0) ≡ wordOf n unrisen
-unrisen-same n = word-same n (added unrisen 0 0) unrisen (λ i h. added-none unrisen 0 refl i)

@@ -4,7 +4,7 @@ use mathlib.Core.Path.{_≡_}
 use mathlib.Core.Bool.{Bool, true, false, cond}
 use mathlib.Core.List.{List, [], _∷_, _++_, map}
 use mathlib.Core.Option.{Option, none, some}
-use Prim.Native.Nat.{ℕ, zero, suc, _+_, _-_, _%_, _<_, _≤_}
+use Prim.Native.Nat.{ℕ, zero, suc, _+_, _*_, _-_, _%_, _<_, _≤_}
 use lib.Dec.{eqb, ltb}
 use lib.ListN.{length}
 use Rattle.definitions.specs.Words.{at, upFrom, weight, EachCell}
@@ -14,6 +14,7 @@ use Rattle.definitions.specs.Patterns.{ofWeight, prefixedByEach, patternCount}
 use Rattle.definitions.specs.Decoding.{fits, sameSyndrome}
 use Rattle.opening.specs.declared.Parameters.{Parameters}
 use Rattle.opening.specs.Opening.{Ready}
+use Rattle.syndrome.specs.Columns.{column}
 use Rattle.search.specs.declared.Risen.{Risen}
 use Rattle.search.specs.declared.Sought.{Sought}
 use Rattle.search.specs.declared.Sought.the-variants.{Hit, Miss}
@@ -36,6 +37,10 @@ magnitudeAt k i =
 -- the choices as a word of n cells
 unfoldable pub wordOf : ℕ → Risen → List ℕ
 wordOf n k = map (magnitudeAt k) (upFrom 0 n)
+
+-- no choice made: the empty pattern
+abbrev pub unrisen : Risen
+unrisen = record { c1 = 0; m1 = 0; c2 = 0; m2 = 0; c3 = 0; m3 = 0 }
 
 -- one choice more, before the others
 abbrev pub added : Risen → ℕ → ℕ → Risen
@@ -63,6 +68,15 @@ pub record Remains (p : Code) (y : List ℕ) (k : Risen) (rest : List ℕ) : Typ
 -- the difference a - e modulo M
 abbrev pub lessModulo : ℕ → ℕ → ℕ → ℕ
 lessModulo M a e = cond (ltb a e) (a + M - e) (a - e)
+
+-- the first eight of a column's entries, each below 256, as one number: columns whose keys differ, differ
+abbrev pub keyOf : (ℕ → ℕ) → ℕ
+keyOf f = f 0 + 256 * (f 1 + 256 * (f 2 + 256 * (f 3 + 256 * (f 4 + 256 * (f 5 + 256 * (f 6 + 256 * f 7))))))
+
+-- the keys of the columns of a code whose one magnitude is 1
+pub record Keyed (p : Code) (keys : List ℕ) : Type 0 where
+  pub single : p .l ≡ 1
+  pub each : (c : ℕ) → c < p .n → at keys c ≡ keyOf (λ i. column p i c)
 
 -- what a pattern is tested for: that it leaves a codeword, or its syndrome alone
 abbrev pub testOf : Bool → Code → List ℕ → List ℕ → Bool

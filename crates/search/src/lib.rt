@@ -2,14 +2,17 @@
 use opening::Parameters;
 ghost use mathlib.Core.Path.{_≡_};
 ghost use mathlib.Core.Bool.{true};
+ghost use mathlib.Core.Option.{none};
 ghost use Prim.Native.Nat.{ℕ, _+_, _*_, _%_, _-_, _<_, _≤_};
+ghost use lib.Dec.{ltb};
 ghost use lib.ListN.{length};
-ghost use Rattle.definitions.specs.Words.{at};
-ghost use Rattle.definitions.specs.Patterns.{patternsOf};
+ghost use Rattle.definitions.specs.Words.{at, upFrom, allZero};
+ghost use Rattle.definitions.specs.Patterns.{patterns, patternsOf};
+ghost use Rattle.definitions.specs.Codewords.{ceiling};
 ghost use Rattle.definitions.specs.Decoding.{first, fits, sameSyndrome};
 ghost use Rattle.opening.specs.Opening.{codeWith, Ready};
 ghost use Rattle.syndrome.specs.Columns.{column, Syndrome};
-ghost use Rattle.search.specs.Search.{magnitudeOf, magnitudeAt, wordOf, added, Received, Chosen, Remains, lessModulo, testOf, cellsFrom, magnitudesFrom, seek, soughtAs, triedBy, foundWord, CountsOf};
+ghost use Rattle.search.specs.Search.{magnitudeOf, magnitudeAt, wordOf, unrisen, added, Received, Chosen, Remains, lessModulo, keyOf, Keyed, testOf, cellsFrom, magnitudesFrom, seek, soughtAs, triedBy, foundWord, CountsOf};
 
 // At most three risen cells, counted from 0, with their magnitudes; a magnitude of 0 is no choice.
 pub struct Risen {
@@ -113,38 +116,64 @@ fn lowered(matrix: &[u8], p: Parameters, rest: [u8; 12], cell: usize) -> [u8; 12
     s
 }
 
-// Whether a pattern with the word's syndrome is nowhere above the word and leaves its check cells, the unrisen too, below the ceiling.
-fn leaves_codeword(matrix: &[u8], p: Parameters, word: &[u8], k: Risen) -> bool
+// Whether the pattern is above the word at cell i.
+fn is_above(word: &[u8], k: Risen, i: usize) -> bool
+    ensures { λ b. ⌜ b ≡ ltb (at (now (word .entry)) i) (at (wordOf (length (now (word .entry))) k) i) ⌝ }
+{
+    if word.len() <= i {
+        return false;
+    }
+    opening::wide(word[i]) < magnitude_at(k, i)
+}
+
+// Whether a pattern with the word's syndrome that is nowhere above the word leaves all its check cells, the unrisen too, below the ceiling.
+fn checks_fit(matrix: &[u8], p: Parameters, word: &[u8], k: Risen, high: usize) -> bool
     requires received { ⌜ Received p (now matrix) (now word) ⌝ }
     requires same { ⌜ sameSyndrome (codeWith p (now matrix)) (now word) (wordOf (p .n) k) ≡ true ⌝ }
+    requires under { ⌜ ((i : ℕ) → i < p .n → magnitudeAt k i ≤ at (now word) i) ⌝ }
+    requires bound { ⌜ high ≡ ceiling (codeWith p (now matrix)) ⌝ }
     ensures { λ b. ⌜ b ≡ fits (codeWith p (now (matrix .entry))) (now (word .entry)) (wordOf (p .n) k) ⌝ }
 {
     let n = p.n;
-    let w = n - p.r;
-    let high = syndrome::ceiling(p.q, p.m);
-    let mut i = 0;
+    let mut i = n - p.r;
     while i < n {
-        let g = magnitude_at(k, i);
-        let v = opening::wide(word[i]);
-        if v < g {
+        if high <= opening::wide(word[i]) - magnitude_at(k, i) {
             return false;
-        }
-        if w <= i {
-            if high <= v - g {
-                return false;
-            }
         }
         i += 1;
     }
     true
 }
 
-// Whether the pattern with the magnitude `mag` at `cell` besides the choices k passes the test: its column has to be what remains.
-fn passes(
+// Whether a pattern with the word's syndrome is nowhere above the word and leaves its check cells below the ceiling. Where m divides q
+// every level is below it.
+fn leaves_codeword(matrix: &[u8], p: Parameters, word: &[u8], k: Risen) -> bool
+    requires received { ⌜ Received p (now matrix) (now word) ⌝ }
+    requires same { ⌜ sameSyndrome (codeWith p (now matrix)) (now word) (wordOf (p .n) k) ≡ true ⌝ }
+    ensures { λ b. ⌜ b ≡ fits (codeWith p (now (matrix .entry))) (now (word .entry)) (wordOf (p .n) k) ⌝ }
+{
+    if is_above(word, k, k.c1) {
+        return false;
+    }
+    if is_above(word, k, k.c2) {
+        return false;
+    }
+    if is_above(word, k, k.c3) {
+        return false;
+    }
+    let q = p.q;
+    let high = syndrome::ceiling(q, p.m);
+    if high == q {
+        return true;
+    }
+    checks_fit(matrix, p, word, k, high)
+}
+
+// Whether the pattern with the magnitude `mag` at `cell` besides the choices k has the word's syndrome: its column has to be what remains.
+fn has_syndrome(
     matrix: &[u8],
     p: Parameters,
     word: &[u8],
-    wanted: bool,
     cell: usize,
     mag: usize,
     rest: &[u8; 12],
@@ -154,7 +183,7 @@ fn passes(
     requires chosen { ⌜ Chosen k 1 cell ⌝ }
     requires bounds { ⌜ (cell < p .n) × (mag ≤ p .l) ⌝ }
     requires remains { ⌜ Remains (codeWith p (now matrix)) (now word) k (now rest) ⌝ }
-    ensures { λ b. ⌜ b ≡ testOf wanted (codeWith p (now (matrix .entry))) (now (word .entry)) (wordOf (p .n) (added k cell mag)) ⌝ }
+    ensures { λ b. ⌜ b ≡ sameSyndrome (codeWith p (now (matrix .entry))) (now (word .entry)) (wordOf (p .n) (added k cell mag)) ⌝ }
 {
     let r = p.r;
     let m = p.m;
@@ -165,8 +194,17 @@ fn passes(
         }
         i += 1;
     }
+    true
+}
+
+// Whether a pattern with the word's syndrome passes the test.
+fn passes(matrix: &[u8], p: Parameters, word: &[u8], wanted: bool, k: Risen) -> bool
+    requires received { ⌜ Received p (now matrix) (now word) ⌝ }
+    requires same { ⌜ sameSyndrome (codeWith p (now matrix)) (now word) (wordOf (p .n) k) ≡ true ⌝ }
+    ensures { λ b. ⌜ b ≡ testOf wanted (codeWith p (now (matrix .entry))) (now (word .entry)) (wordOf (p .n) k) ⌝ }
+{
     if wanted {
-        return leaves_codeword(matrix, p, word, add(k, cell, mag));
+        return leaves_codeword(matrix, p, word, k);
     }
     true
 }
@@ -229,12 +267,127 @@ fn last_magnitude(
         mag += 1;
         x = more_modulo(m, x, e);
         if x == goal {
-            if passes(matrix, p, word, wanted, cell, mag, rest, k) {
-                return Sought::Hit(add(k, cell, mag), tried + mag);
+            if has_syndrome(matrix, p, word, cell, mag, rest, k) {
+                let found = add(k, cell, mag);
+                if passes(matrix, p, word, wanted, found) {
+                    return Sought::Hit(found, tried + mag);
+                }
             }
         }
     }
     Sought::Miss(tried + mag)
+}
+
+// The entries of a cell's column.
+fn column_of(matrix: &[u8], p: Parameters, cell: usize) -> [u8; 12]
+    requires ready { ⌜ Ready p (now matrix) ⌝ }
+    requires cells { ⌜ cell < p .n ⌝ }
+    ensures { λ s. ⌜ ((i : ℕ) → at s i ≡ column (codeWith p (now (matrix .entry))) i cell) ⌝ }
+{
+    let r = p.r;
+    let mut s = [0u8; 12];
+    let mut i = 0;
+    while i < r {
+        s[i] = syndrome::entry(matrix, p, i, cell) as u8;
+        i += 1;
+    }
+    s
+}
+
+fn long(x: u8) -> u64
+    ensures { λ r. ⌜ (r ≡ x) × (r ≤ 255) ⌝ }
+{
+    x as u64
+}
+
+fn key(s: [u8; 12]) -> u64
+    ensures { λ r. ⌜ r ≡ keyOf (at s) ⌝ }
+{
+    long(s[0])
+        + 256
+            * (long(s[1])
+                + 256
+                    * (long(s[2])
+                        + 256
+                            * (long(s[3])
+                                + 256
+                                    * (long(s[4])
+                                        + 256
+                                            * (long(s[5])
+                                                + 256 * (long(s[6]) + 256 * long(s[7])))))))
+}
+
+// The keys of the columns of the first `end` cells.
+fn column_keys(matrix: &[u8], p: Parameters, end: usize) -> [u64; 64]
+    requires ready { ⌜ Ready p (now matrix) ⌝ }
+    requires cells { ⌜ end ≤ p .n ⌝ }
+    ensures { λ x. ⌜ ((c : ℕ) → c < end → at x c ≡ keyOf (λ i. column (codeWith p (now (matrix .entry))) i c)) ⌝ }
+{
+    let mut x = [0u64; 64];
+    let mut c = 0;
+    while c < end {
+        x[c] = key(column_of(matrix, p, c));
+        c += 1;
+    }
+    x
+}
+
+// Whether the pattern with the magnitude `mag` at `cell` besides the choices k passes the test.
+fn passes_with(
+    matrix: &[u8],
+    p: Parameters,
+    word: &[u8],
+    wanted: bool,
+    cell: usize,
+    mag: usize,
+    rest: &[u8; 12],
+    k: Risen,
+) -> bool
+    requires received { ⌜ Received p (now matrix) (now word) ⌝ }
+    requires chosen { ⌜ Chosen k 1 cell ⌝ }
+    requires bounds { ⌜ (cell < p .n) × (mag ≤ p .l) ⌝ }
+    requires remains { ⌜ Remains (codeWith p (now matrix)) (now word) k (now rest) ⌝ }
+    ensures { λ b. ⌜ b ≡ testOf wanted (codeWith p (now (matrix .entry))) (now (word .entry)) (wordOf (p .n) (added k cell mag)) ⌝ }
+{
+    if !has_syndrome(matrix, p, word, cell, mag, rest, k) {
+        return false;
+    }
+    passes(matrix, p, word, wanted, add(k, cell, mag))
+}
+
+// The last choice where the one magnitude is 1: only a cell whose column has the key of what remains is tested further.
+fn keyed_cell(
+    matrix: &[u8],
+    p: Parameters,
+    word: &[u8],
+    wanted: bool,
+    cell: usize,
+    rest: &[u8; 12],
+    k: Risen,
+    tried: usize,
+    keys: &[u64; 64],
+) -> Sought
+    requires received { ⌜ Received p (now matrix) (now word) ⌝ }
+    requires chosen { ⌜ Chosen k 1 cell ⌝ }
+    requires bounds { ⌜ tried ≤ 4096 ⌝ }
+    requires remains { ⌜ Remains (codeWith p (now matrix)) (now word) k (now rest) ⌝ }
+    requires keyed { ⌜ Keyed (codeWith p (now matrix)) (now keys) ⌝ }
+    ensures { λ r. ⌜ soughtAs (p .n) r ≡ seek (testOf wanted (codeWith p (now (matrix .entry))) (now (word .entry))) (cellsFrom (codeWith p (now (matrix .entry))) k 1 cell) tried ⌝ }
+{
+    let n = p.n;
+    let goal = key(*rest);
+    let mut c = cell;
+    let mut t = tried;
+    while c < n {
+        t += 1;
+        if keys[c] == goal {
+            if passes_with(matrix, p, word, wanted, c, 1, rest, k) {
+                return Sought::Hit(add(k, c, 1), t);
+            }
+        }
+        c += 1;
+    }
+    Sought::Miss(t)
 }
 
 // The last choice: the cells from `cell` on, each with its magnitudes.
@@ -272,6 +425,32 @@ fn last_cell(
     Sought::Miss(t)
 }
 
+// The last choice, by keys where there are any.
+fn last_choice(
+    matrix: &[u8],
+    p: Parameters,
+    word: &[u8],
+    wanted: bool,
+    cell: usize,
+    rest: &[u8; 12],
+    k: Risen,
+    tried: usize,
+    keys: &[u64; 64],
+    keyed: bool,
+) -> Sought
+    requires received { ⌜ Received p (now matrix) (now word) ⌝ }
+    requires chosen { ⌜ Chosen k 1 cell ⌝ }
+    requires bounds { ⌜ tried ≤ 4096 ⌝ }
+    requires remains { ⌜ Remains (codeWith p (now matrix)) (now word) k (now rest) ⌝ }
+    requires keyed { ⌜ (keyed ≡ true → Keyed (codeWith p (now matrix)) (now keys)) ⌝ }
+    ensures { λ r. ⌜ soughtAs (p .n) r ≡ seek (testOf wanted (codeWith p (now (matrix .entry))) (now (word .entry))) (cellsFrom (codeWith p (now (matrix .entry))) k 1 cell) tried ⌝ }
+{
+    if keyed {
+        return keyed_cell(matrix, p, word, wanted, cell, rest, k, tried, keys);
+    }
+    last_cell(matrix, p, word, wanted, cell, rest, k, tried)
+}
+
 // Chooses the next of `left` cells, from `cell` on: the magnitudes of this one first, then the cells after it.
 fn choose_cell(
     matrix: &[u8],
@@ -283,24 +462,52 @@ fn choose_cell(
     rest: &[u8; 12],
     k: Risen,
     tried: usize,
+    keys: &[u64; 64],
+    keyed: bool,
 ) -> Sought
     requires received { ⌜ Received p (now matrix) (now word) ⌝ }
     requires chosen { ⌜ Chosen k left cell × (1 ≤ left) ⌝ }
     requires remains { ⌜ Remains (codeWith p (now matrix)) (now word) k (now rest) ⌝ }
     requires room { ⌜ tried + length (cellsFrom (codeWith p (now matrix)) k left cell) ≤ 4096 ⌝ }
+    requires keyed { ⌜ (keyed ≡ true → Keyed (codeWith p (now matrix)) (now keys)) ⌝ }
     ensures { λ r. ⌜ soughtAs (p .n) r ≡ seek (testOf wanted (codeWith p (now (matrix .entry))) (now (word .entry))) (cellsFrom (codeWith p (now (matrix .entry))) k left cell) tried ⌝ }
 {
     if left == 1 {
-        return last_cell(matrix, p, word, wanted, cell, rest, k, tried);
+        return last_choice(matrix, p, word, wanted, cell, rest, k, tried, keys, keyed);
     }
     let n = p.n;
     if n <= cell {
         return Sought::Miss(tried);
     }
-    let here = choose_magnitude(matrix, p, word, wanted, left, cell, 0, rest, k, tried);
+    let here = choose_magnitude(
+        matrix,
+        p,
+        word,
+        wanted,
+        left,
+        cell,
+        0,
+        rest,
+        k,
+        tried,
+        keys,
+        keyed,
+    );
     match here {
         Sought::Hit(found, t) => Sought::Hit(found, t),
-        Sought::Miss(t) => choose_cell(matrix, p, word, wanted, left, cell + 1, rest, k, t),
+        Sought::Miss(t) => choose_cell(
+            matrix,
+            p,
+            word,
+            wanted,
+            left,
+            cell + 1,
+            rest,
+            k,
+            t,
+            keys,
+            keyed,
+        ),
     }
 }
 
@@ -316,55 +523,147 @@ fn choose_magnitude(
     rest: &[u8; 12],
     k: Risen,
     tried: usize,
+    keys: &[u64; 64],
+    keyed: bool,
 ) -> Sought
     requires received { ⌜ Received p (now matrix) (now word) ⌝ }
     requires chosen { ⌜ Chosen k left cell × (2 ≤ left) ⌝ }
     requires bounds { ⌜ (cell < p .n) × (mag < p .l) ⌝ }
     requires remains { ⌜ Remains (codeWith p (now matrix)) (now word) (added k cell mag) (now rest) ⌝ }
     requires room { ⌜ tried + length (magnitudesFrom (codeWith p (now matrix)) k left cell mag) ≤ 4096 ⌝ }
+    requires keyed { ⌜ (keyed ≡ true → Keyed (codeWith p (now matrix)) (now keys)) ⌝ }
     ensures { λ r. ⌜ soughtAs (p .n) r ≡ seek (testOf wanted (codeWith p (now (matrix .entry))) (now (word .entry))) (magnitudesFrom (codeWith p (now (matrix .entry))) k left cell mag) tried ⌝ }
 {
     let l = p.l;
     let next = lowered(matrix, p, *rest, cell);
     let c = cell + 1;
     let chosen = add(k, cell, mag + 1);
-    let inner = choose_cell(matrix, p, word, wanted, left - 1, c, &next, chosen, tried);
+    let inner = choose_cell(
+        matrix,
+        p,
+        word,
+        wanted,
+        left - 1,
+        c,
+        &next,
+        chosen,
+        tried,
+        keys,
+        keyed,
+    );
     match inner {
         Sought::Hit(found, t) => Sought::Hit(found, t),
         Sought::Miss(t) => {
             if l <= mag + 1 {
                 Sought::Miss(t)
             } else {
-                choose_magnitude(matrix, p, word, wanted, left, cell, mag + 1, &next, k, t)
+                choose_magnitude(
+                    matrix,
+                    p,
+                    word,
+                    wanted,
+                    left,
+                    cell,
+                    mag + 1,
+                    &next,
+                    k,
+                    t,
+                    keys,
+                    keyed,
+                )
             }
         }
     }
 }
 
-// The first error pattern in document 01's order with the word's syndrome and, where a codeword is wanted, that leaves one.
-pub fn first_pattern(
+// Whether all entries are 0.
+fn is_zero(s: [u8; 12]) -> bool
+    ensures { λ b. ⌜ b ≡ allZero s ⌝ }
+{
+    let mut i = 0;
+    while i < 12 {
+        if s[i] != 0 {
+            return false;
+        }
+        i += 1;
+    }
+    true
+}
+
+// Whether the empty pattern passes the test.
+fn empty_passes(matrix: &[u8], p: Parameters, word: &[u8], target: [u8; 12], wanted: bool) -> bool
+    requires received { ⌜ Received p (now matrix) (now word) ⌝ }
+    requires target { ⌜ Syndrome (codeWith p (now matrix)) (now word) target ⌝ }
+    ensures { λ b. ⌜ b ≡ testOf wanted (codeWith p (now (matrix .entry))) (now (word .entry)) (wordOf (p .n) unrisen) ⌝ }
+{
+    if !is_zero(target) {
+        return false;
+    }
+    passes(matrix, p, word, wanted, UNRISEN)
+}
+
+// The patterns with `weight` risen cells: no choice made, from the first cell on.
+fn of_weight(
+    matrix: &[u8],
+    p: Parameters,
+    word: &[u8],
+    wanted: bool,
+    weight: usize,
+    target: &[u8; 12],
+    tried: usize,
+    keys: &[u64; 64],
+    keyed: bool,
+) -> Sought
+    requires received { ⌜ Received p (now matrix) (now word) ⌝ }
+    requires target { ⌜ Syndrome (codeWith p (now matrix)) (now word) (now target) ⌝ }
+    requires bounds { ⌜ (1 ≤ weight) × (weight ≤ 3) ⌝ }
+    requires room { ⌜ tried + length (cellsFrom (codeWith p (now matrix)) unrisen weight 0) ≤ 4096 ⌝ }
+    requires keyed { ⌜ (keyed ≡ true → Keyed (codeWith p (now matrix)) (now keys)) ⌝ }
+    ensures { λ r. ⌜ soughtAs (p .n) r ≡ seek (testOf wanted (codeWith p (now (matrix .entry))) (now (word .entry))) (cellsFrom (codeWith p (now (matrix .entry))) unrisen weight 0) tried ⌝ }
+{
+    choose_cell(
+        matrix,
+        p,
+        word,
+        wanted,
+        weight,
+        0,
+        target,
+        UNRISEN,
+        tried,
+        keys,
+        keyed,
+    )
+}
+
+// How many cells have keys: all where the one magnitude is 1, else none.
+fn keyed_cells(p: Parameters) -> usize
+    ensures { λ e. ⌜ (e ≤ p .n) × (p .l ≡ 1 → e ≡ p .n) ⌝ }
+{
+    if p.l == 1 { p.n } else { 0 }
+}
+
+// The first pattern with two risen cells or more, where none with fewer passes the test.
+fn heavier(
     matrix: &[u8],
     p: Parameters,
     word: &[u8],
     target: [u8; 12],
     wanted: bool,
+    lighter: usize,
 ) -> Found
     requires received { ⌜ Received p (now matrix) (now word) ⌝ }
     requires target { ⌜ Syndrome (codeWith p (now matrix)) (now word) target ⌝ }
+    requires lighter { ⌜ (1 ≤ p .t) × (seek (testOf wanted (codeWith p (now matrix)) (now word)) (patterns (upFrom 1 (p .l)) 1 (p .n)) 0 ≡ (none, lighter)) ⌝ }
     ensures found { λ r. ⌜ foundWord (p .n) r ≡ first (testOf wanted (codeWith p (now (matrix .entry))) (now (word .entry))) (patternsOf (codeWith p (now (matrix .entry)))) ⌝ }
     ensures counts { λ r. ⌜ CountsOf (codeWith p (now (matrix .entry))) r ⌝ }
 {
-    if passes(matrix, p, word, wanted, 0, 0, &target, UNRISEN) {
-        return Found::Pattern {
-            risen: UNRISEN,
-            count: 0,
-            tried: 1,
-        };
-    }
-    let mut tried = 1;
-    let mut weight = 1;
+    let keys = column_keys(matrix, p, keyed_cells(p));
+    let on = p.l == 1;
+    let mut tried = lighter;
+    let mut weight = 2;
     while weight <= p.t {
-        let here = choose_cell(matrix, p, word, wanted, weight, 0, &target, UNRISEN, tried);
+        let here = of_weight(matrix, p, word, wanted, weight, &target, tried, &keys, on);
         match here {
             Sought::Hit(k, u) => {
                 return Found::Pattern {
@@ -380,4 +679,44 @@ pub fn first_pattern(
         weight += 1;
     }
     Found::Nothing
+}
+
+// The first error pattern in document 01's order with the word's syndrome and, where a codeword is wanted, that leaves one.
+pub fn first_pattern(
+    matrix: &[u8],
+    p: Parameters,
+    word: &[u8],
+    target: [u8; 12],
+    wanted: bool,
+) -> Found
+    requires received { ⌜ Received p (now matrix) (now word) ⌝ }
+    requires target { ⌜ Syndrome (codeWith p (now matrix)) (now word) target ⌝ }
+    ensures found { λ r. ⌜ foundWord (p .n) r ≡ first (testOf wanted (codeWith p (now (matrix .entry))) (now (word .entry))) (patternsOf (codeWith p (now (matrix .entry)))) ⌝ }
+    ensures counts { λ r. ⌜ CountsOf (codeWith p (now (matrix .entry))) r ⌝ }
+{
+    if empty_passes(matrix, p, word, target, wanted) {
+        return Found::Pattern {
+            risen: UNRISEN,
+            count: 0,
+            tried: 1,
+        };
+    }
+    if p.t == 0 {
+        return Found::Nothing;
+    }
+    let none = [0u64; 64];
+    let one = of_weight(matrix, p, word, wanted, 1, &target, 1, &none, false);
+    match one {
+        Sought::Hit(k, u) => Found::Pattern {
+            risen: k,
+            count: 1,
+            tried: u,
+        },
+        Sought::Miss(u) => {
+            if p.t == 1 {
+                return Found::Nothing;
+            }
+            heavier(matrix, p, word, target, wanted, u)
+        }
+    }
 }

@@ -19,62 +19,62 @@ use Rattle.search.proofs.choose_magnitude.Reads as choose-magnitude
 use Rattle.search.proofs.choose_magnitude.Kinds as choose-magnitude-kinds
 use Rattle.search.proofs.+choose_cell+choose_magnitude.Lts-choose_magnitude as choose-magnitude-lts
 use Rattle.search.proofs.add.Reads as add-reads
-use Rattle.search.proofs.last_cell.Reads as last-cell-reads
+use Rattle.search.proofs.last_choice.Reads as last-choice-reads
 use Rattle.search.proofs.lowered.Reads as lowered-reads
 
-abbrev μ-choose-cell : Measures 3 choose-cell-kinds.ps ℕ
+abbrev μ-choose-cell : Measures 4 choose-cell-kinds.ps ℕ
 μ-choose-cell κs a = (a .1 .0 .n - a .1 .1 .1 .1 .1 .0) * 256
 
-abbrev μ-choose-magnitude : Measures 3 choose-magnitude-kinds.ps ℕ
+abbrev μ-choose-magnitude : Measures 4 choose-magnitude-kinds.ps ℕ
 μ-choose-magnitude κs a = (a .1 .0 .n - a .1 .1 .1 .1 .1 .0) * 256 - 1 - a .1 .1 .1 .1 .1 .1 .0
 
-abbrev choose-cell-at : ℕ → In 3 choose-cell-kinds.ps
+abbrev choose-cell-at : ℕ → In 4 choose-cell-kinds.ps
 choose-cell-at t =
-    and 3 choose-cell-kinds.ps (is 3 choose-cell-kinds.ps μ-choose-cell t) choose-cell.Pre
+    and 4 choose-cell-kinds.ps (is 4 choose-cell-kinds.ps μ-choose-cell t) choose-cell.Pre
 
-abbrev choose-cell-below : ℕ → In 3 choose-cell-kinds.ps
+abbrev choose-cell-below : ℕ → In 4 choose-cell-kinds.ps
 choose-cell-below t =
-    and 3 choose-cell-kinds.ps (falls 3 choose-cell-kinds.ps _<_ μ-choose-cell t) choose-cell.Pre
+    and 4 choose-cell-kinds.ps (falls 4 choose-cell-kinds.ps _<_ μ-choose-cell t) choose-cell.Pre
 
-abbrev choose-magnitude-at : ℕ → In 3 choose-magnitude-kinds.ps
+abbrev choose-magnitude-at : ℕ → In 4 choose-magnitude-kinds.ps
 choose-magnitude-at t =
     and
-    3
+    4
     choose-magnitude-kinds.ps
-    (is 3 choose-magnitude-kinds.ps μ-choose-magnitude t)
+    (is 4 choose-magnitude-kinds.ps μ-choose-magnitude t)
     choose-magnitude.Pre
 
-abbrev choose-magnitude-below : ℕ → In 3 choose-magnitude-kinds.ps
+abbrev choose-magnitude-below : ℕ → In 4 choose-magnitude-kinds.ps
 choose-magnitude-below t =
     and
-    3
+    4
     choose-magnitude-kinds.ps
-    (falls 3 choose-magnitude-kinds.ps _<_ μ-choose-magnitude t)
+    (falls 4 choose-magnitude-kinds.ps _<_ μ-choose-magnitude t)
     choose-magnitude.Pre
 
-choose-cell-last-cell-requires : (t : ℕ) → choose-cell-lts.Need-last-cell-requires (
-  last-cell-reads.Asked,
-  last-cell-reads.Learnt,
+choose-cell-last-choice-requires : (t : ℕ) → choose-cell-lts.Need-last-choice-requires (
+  last-choice-reads.Asked,
+  last-choice-reads.Learnt,
   choose-magnitude-below t,
   choose-magnitude.Post,
   choose-cell-below t,
   choose-cell.Post,
 ) (choose-cell-at t) choose-cell.Post
-choose-cell-last-cell-requires t c κs = ((c .before .before .before .pre .1 .0), (subst (λ (m : ℕ). Chosen (c .before .before .before .args .k) m (c .before .before .before .args .cell)) (c .if1 .taken) (c .before .before .before .pre .1 .1 .0 .0), (search needs, (c .before .before .before .pre .1 .1 .1 .0))))
+choose-cell-last-choice-requires t c κs = ((c .before .before .before .pre .1 .0), (subst (λ (m : ℕ). Chosen (c .before .before .before .args .k) m (c .before .before .before .args .cell)) (c .if1 .taken) (c .before .before .before .pre .1 .1 .0 .0), (search needs, ((c .before .before .before .pre .1 .1 .1 .0), c .before .before .before .pre .1 .1 .1 .1 .1))))
 
 choose-cell-returns : (t : ℕ) → choose-cell-lts.Need-returns (
-  last-cell-reads.Asked,
-  last-cell-reads.Learnt,
+  last-choice-reads.Asked,
+  last-choice-reads.Learnt,
   choose-magnitude-below t,
   choose-magnitude.Post,
   choose-cell-below t,
   choose-cell.Post,
 ) (choose-cell-at t) choose-cell.Post
-choose-cell-returns t c = c .last-cell .ensures ∙ ap (λ (m : ℕ). seek (testOf (c .before .before .before .before .args .wanted) (codeWith (c .before .before .before .before .args .p) (c .before .before .before .before .args .matrix .now)) (c .before .before .before .before .args .word .now)) (cellsFrom (codeWith (c .before .before .before .before .args .p) (c .before .before .before .before .args .matrix .now)) (c .before .before .before .before .args .k) m (c .before .before .before .before .args .cell)) (c .before .before .before .before .args .tried)) (sym (c .before .if1 .taken))
+choose-cell-returns t c = c .last-choice .ensures ∙ ap (λ (m : ℕ). seek (testOf (c .before .before .before .before .args .wanted) (codeWith (c .before .before .before .before .args .p) (c .before .before .before .before .args .matrix .now)) (c .before .before .before .before .args .word .now)) (cellsFrom (codeWith (c .before .before .before .before .args .p) (c .before .before .before .before .args .matrix .now)) (c .before .before .before .before .args .k) m (c .before .before .before .before .args .cell)) (c .before .before .before .before .args .tried)) (sym (c .before .if1 .taken))
 
 choose-cell-returns-2 : (t : ℕ) → choose-cell-lts.Need-returns-2 (
-  last-cell-reads.Asked,
-  last-cell-reads.Learnt,
+  last-choice-reads.Asked,
+  last-choice-reads.Learnt,
   choose-magnitude-below t,
   choose-magnitude.Post,
   choose-cell-below t,
@@ -83,18 +83,18 @@ choose-cell-returns-2 : (t : ℕ) → choose-cell-lts.Need-returns-2 (
 choose-cell-returns-2 t c = seek-none (testOf (c .before .before .before .before .args .wanted) (codeWith (c .before .before .before .before .args .p) (c .before .before .before .before .args .matrix .now)) (c .before .before .before .before .args .word .now)) (c .before .before .before .before .args .p .n) _ _ (cell-none (codeWith (c .before .before .before .before .args .p) (c .before .before .before .before .args .matrix .now)) (c .before .before .before .before .args .k) (c .before .before .before .before .args .left) (c .before .before .before .before .args .cell) (c .before .before .before .before .pre .1 .1 .0 .1) (c .if2 .taken))
 
 choose-cell-choose-magnitude-requires : (t : ℕ) → choose-cell-lts.Need-choose-magnitude-requires (
-  last-cell-reads.Asked,
-  last-cell-reads.Learnt,
+  last-choice-reads.Asked,
+  last-choice-reads.Learnt,
   choose-magnitude-below t,
   choose-magnitude.Post,
   choose-cell-below t,
   choose-cell.Post,
 ) (choose-cell-at t) choose-cell.Post
-choose-cell-choose-magnitude-requires t c κs = (search needs, ((c .before .before .before .before .pre .1 .0), (((c .before .before .before .before .pre .1 .1 .0 .0), search needs), ((c .if2 .left, search needs), (remains-start (codeWith (c .before .before .before .before .args .p) (c .before .before .before .before .args .matrix .now)) (c .before .before .before .before .args .word .now) (c .before .before .before .before .args .k) (c .before .before .before .before .args .left) (c .before .before .before .before .args .cell) (c .before .before .before .before .args .rest .now) (c .before .before .before .before .pre .1 .1 .0 .0) (c .before .before .before .before .pre .1 .1 .0 .1) (c .before .before .before .before .pre .1 .1 .1 .0), cell-first (codeWith (c .before .before .before .before .args .p) (c .before .before .before .before .args .matrix .now)) (c .before .before .before .before .args .k) (c .before .before .before .before .args .left) (c .before .before .before .before .args .cell) (c .before .before .before .before .pre .1 .1 .0 .1) (c .if2 .left) (c .before .before .before .before .pre .1 .1 .0 .0) _ _ (c .before .before .before .before .pre .1 .1 .1 .1))))))
+choose-cell-choose-magnitude-requires t c κs = (search needs, ((c .before .before .before .before .pre .1 .0), (((c .before .before .before .before .pre .1 .1 .0 .0), search needs), ((c .if2 .left, search needs), (remains-start (codeWith (c .before .before .before .before .args .p) (c .before .before .before .before .args .matrix .now)) (c .before .before .before .before .args .word .now) (c .before .before .before .before .args .k) (c .before .before .before .before .args .left) (c .before .before .before .before .args .cell) (c .before .before .before .before .args .rest .now) (c .before .before .before .before .pre .1 .1 .0 .0) (c .before .before .before .before .pre .1 .1 .0 .1) (c .before .before .before .before .pre .1 .1 .1 .0), (cell-first (codeWith (c .before .before .before .before .args .p) (c .before .before .before .before .args .matrix .now)) (c .before .before .before .before .args .k) (c .before .before .before .before .args .left) (c .before .before .before .before .args .cell) (c .before .before .before .before .pre .1 .1 .0 .1) (c .if2 .left) (c .before .before .before .before .pre .1 .1 .0 .0) _ _ (c .before .before .before .before .pre .1 .1 .1 .1 .0), c .before .before .before .before .pre .1 .1 .1 .1 .1))))))
 
 choose-cell-enum-known-here : (t : ℕ) → choose-cell-lts.Need-enum-known-here (
-  last-cell-reads.Asked,
-  last-cell-reads.Learnt,
+  last-choice-reads.Asked,
+  last-choice-reads.Learnt,
   choose-magnitude-below t,
   choose-magnitude.Post,
   choose-cell-below t,
@@ -103,8 +103,8 @@ choose-cell-enum-known-here : (t : ℕ) → choose-cell-lts.Need-enum-known-here
 choose-cell-enum-known-here t c = search needs
 
 choose-cell-enum-known-here-2 : (t : ℕ) → choose-cell-lts.Need-enum-known-here-2 (
-  last-cell-reads.Asked,
-  last-cell-reads.Learnt,
+  last-choice-reads.Asked,
+  last-choice-reads.Learnt,
   choose-magnitude-below t,
   choose-magnitude.Post,
   choose-cell-below t,
@@ -113,8 +113,8 @@ choose-cell-enum-known-here-2 : (t : ℕ) → choose-cell-lts.Need-enum-known-he
 choose-cell-enum-known-here-2 t c = search needs
 
 choose-cell-add-choose-cell : (t : ℕ) → choose-cell-lts.Need-add-choose-cell (
-  last-cell-reads.Asked,
-  last-cell-reads.Learnt,
+  last-choice-reads.Asked,
+  last-choice-reads.Learnt,
   choose-magnitude-below t,
   choose-magnitude.Post,
   choose-cell-below t,
@@ -123,18 +123,18 @@ choose-cell-add-choose-cell : (t : ℕ) → choose-cell-lts.Need-add-choose-cell
 choose-cell-add-choose-cell t c = search needs
 
 choose-cell-choose-cell-requires : (t : ℕ) → choose-cell-lts.Need-choose-cell-requires (
-  last-cell-reads.Asked,
-  last-cell-reads.Learnt,
+  last-choice-reads.Asked,
+  last-choice-reads.Learnt,
   choose-magnitude-below t,
   choose-magnitude.Post,
   choose-cell-below t,
   choose-cell.Post,
 ) (choose-cell-at t) choose-cell.Post
-choose-cell-choose-cell-requires t c κs = (search needs, ((c .before .before .before .before .before .before .before .before .pre .1 .0), ((chosen-next (c .before .before .before .before .before .before .before .before .args .k) (c .before .before .before .before .before .before .before .before .args .left) (c .before .before .before .before .before .before .before .before .args .cell) (c .before .before .before .before .before .before .before .before .pre .1 .1 .0 .0), (c .before .before .before .before .before .before .before .before .pre .1 .1 .0 .1)), ((c .before .before .before .before .before .before .before .before .pre .1 .1 .1 .0), cell-next (codeWith (c .before .before .before .before .before .before .before .before .args .p) (c .before .before .before .before .before .before .before .before .args .matrix .now)) (c .before .before .before .before .before .before .before .before .args .k) (c .before .before .before .before .before .before .before .before .args .left) (c .before .before .before .before .before .before .before .before .args .cell) (c .before .before .before .before .before .before .before .before .pre .1 .1 .0 .1) (c .before .before .before .before .if2 .left) (c .before .before .before .before .before .before .before .before .pre .1 .1 .0 .0) (testOf (c .before .before .before .before .before .before .before .before .args .wanted) (codeWith (c .before .before .before .before .before .before .before .before .args .p) (c .before .before .before .before .before .before .before .before .args .matrix .now)) (c .before .before .before .before .before .before .before .before .args .word .now)) (c .before .before .before .before .before .before .before .before .args .tried) (c .before .before .before .choose-magnitude .result) (c .before .before .before .choose-magnitude .ensures) _ _ (c .before .here2 .given .1) (c .before .before .before .before .before .before .before .before .pre .1 .1 .1 .1)))))
+choose-cell-choose-cell-requires t c κs = (search needs, ((c .before .before .before .before .before .before .before .before .pre .1 .0), ((chosen-next (c .before .before .before .before .before .before .before .before .args .k) (c .before .before .before .before .before .before .before .before .args .left) (c .before .before .before .before .before .before .before .before .args .cell) (c .before .before .before .before .before .before .before .before .pre .1 .1 .0 .0), (c .before .before .before .before .before .before .before .before .pre .1 .1 .0 .1)), ((c .before .before .before .before .before .before .before .before .pre .1 .1 .1 .0), (cell-next (codeWith (c .before .before .before .before .before .before .before .before .args .p) (c .before .before .before .before .before .before .before .before .args .matrix .now)) (c .before .before .before .before .before .before .before .before .args .k) (c .before .before .before .before .before .before .before .before .args .left) (c .before .before .before .before .before .before .before .before .args .cell) (c .before .before .before .before .before .before .before .before .pre .1 .1 .0 .1) (c .before .before .before .before .if2 .left) (c .before .before .before .before .before .before .before .before .pre .1 .1 .0 .0) (testOf (c .before .before .before .before .before .before .before .before .args .wanted) (codeWith (c .before .before .before .before .before .before .before .before .args .p) (c .before .before .before .before .before .before .before .before .args .matrix .now)) (c .before .before .before .before .before .before .before .before .args .word .now)) (c .before .before .before .before .before .before .before .before .args .tried) (c .before .before .before .choose-magnitude .result) (c .before .before .before .choose-magnitude .ensures) _ _ (c .before .here2 .given .1) (c .before .before .before .before .before .before .before .before .pre .1 .1 .1 .1 .0), c .before .before .before .before .before .before .before .before .pre .1 .1 .1 .1 .1)))))
 
 choose-cell-returns-3 : (t : ℕ) → choose-cell-lts.Need-returns-3 (
-  last-cell-reads.Asked,
-  last-cell-reads.Learnt,
+  last-choice-reads.Asked,
+  last-choice-reads.Learnt,
   choose-magnitude-below t,
   choose-magnitude.Post,
   choose-cell-below t,
@@ -143,8 +143,8 @@ choose-cell-returns-3 : (t : ℕ) → choose-cell-lts.Need-returns-3 (
 choose-cell-returns-3 t c = cell-hit (codeWith (c .before .before .before .before .before .before .before .before .args .p) (c .before .before .before .before .before .before .before .before .args .matrix .now)) (c .before .before .before .before .before .before .before .before .args .k) (c .before .before .before .before .before .before .before .before .args .left) (c .before .before .before .before .before .before .before .before .args .cell) (c .before .before .before .before .before .before .before .before .pre .1 .1 .0 .1) (c .before .before .before .before .if2 .left) (c .before .before .before .before .before .before .before .before .pre .1 .1 .0 .0) (testOf (c .before .before .before .before .before .before .before .before .args .wanted) (codeWith (c .before .before .before .before .before .before .before .before .args .p) (c .before .before .before .before .before .before .before .before .args .matrix .now)) (c .before .before .before .before .before .before .before .before .args .word .now)) (c .before .before .before .before .before .before .before .before .args .tried) (c .before .before .before .choose-magnitude .result) (c .before .before .before .choose-magnitude .ensures) _ _ (c .before .here .given .1)
 
 choose-cell-returns-4 : (t : ℕ) → choose-cell-lts.Need-returns-4 (
-  last-cell-reads.Asked,
-  last-cell-reads.Learnt,
+  last-choice-reads.Asked,
+  last-choice-reads.Learnt,
   choose-magnitude-below t,
   choose-magnitude.Post,
   choose-cell-below t,
@@ -222,7 +222,7 @@ choose-magnitude-choose-cell-requires : (t : ℕ) → choose-magnitude-lts.Need-
   choose-magnitude-below t,
   choose-magnitude.Post,
 ) (choose-magnitude-at t) choose-magnitude.Post
-choose-magnitude-choose-cell-requires t c κs = (omega (arith, c .before .before .before .before .before .before .pre .0, c .before .before .before .before .before .before .pre .1 .1 .1 .0 .0, c .before .before .before .before .before .before .pre .1 .1 .1 .0 .1, c .before .before .before .before .before .before .pre .1 .0 .ready .l-high, c .before .before .before .before .before .before .pre .1 .0 .ready .m-high, c .before .before .before .before .before .before .pre .1 .0 .ready .q-high), ((c .before .before .before .before .before .before .pre .1 .0), ((chosen-with (c .before .before .before .before .before .before .args .k) (c .before .before .before .before .before .before .args .left) (c .before .before .before .before .before .before .args .cell) (c .before .before .before .before .before .before .args .mag + 1) (c .before .before .before .before .before .before .pre .1 .1 .0 .0) (omega (arith, c .before .before .before .before .before .before .pre .1 .1 .0 .1)) (c .before .add .result) (c .before .add .ensures), search needs), ((remains-next (c .before .before .before .before .before .before .args .p) (c .before .before .before .before .before .before .args .matrix .now) (c .before .before .before .before .before .before .args .word .now) (c .before .before .before .before .before .before .pre .1 .0) (c .before .before .before .before .before .before .args .k) (c .before .before .before .before .before .before .args .left) (c .before .before .before .before .before .before .args .cell) (c .before .before .before .before .before .before .args .mag) (c .before .before .before .before .before .before .pre .1 .1 .0 .0) (omega (arith, c .before .before .before .before .before .before .pre .1 .1 .0 .1)) (c .before .before .before .before .before .before .pre .1 .1 .1 .0 .0) (c .before .before .before .before .before .before .args .rest .now) (c .before .before .lowered .result) (c .before .before .before .before .before .before .pre .1 .1 .1 .1 .0) (c .before .before .lowered .ensures) (c .before .add .result) (c .before .add .ensures)), mag-first (codeWith (c .before .before .before .before .before .before .args .p) (c .before .before .before .before .before .before .args .matrix .now)) (c .before .before .before .before .before .before .args .k) (c .before .before .before .before .before .before .args .left) (c .before .before .before .before .before .before .args .cell) (c .before .before .before .before .before .before .args .mag) (omega (arith, c .before .before .before .before .before .before .pre .1 .1 .0 .1)) (c .before .before .before .before .before .before .pre .1 .1 .1 .0 .1) (c .before .before .before .before .before .before .pre .1 .1 .0 .0) (c .before .add .result) (c .before .add .ensures) _ _ (c .before .before .before .before .before .before .pre .1 .1 .1 .1 .1)))))
+choose-magnitude-choose-cell-requires t c κs = (omega (arith, c .before .before .before .before .before .before .pre .0, c .before .before .before .before .before .before .pre .1 .1 .1 .0 .0, c .before .before .before .before .before .before .pre .1 .1 .1 .0 .1, c .before .before .before .before .before .before .pre .1 .0 .ready .l-high, c .before .before .before .before .before .before .pre .1 .0 .ready .m-high, c .before .before .before .before .before .before .pre .1 .0 .ready .q-high), ((c .before .before .before .before .before .before .pre .1 .0), ((chosen-with (c .before .before .before .before .before .before .args .k) (c .before .before .before .before .before .before .args .left) (c .before .before .before .before .before .before .args .cell) (c .before .before .before .before .before .before .args .mag + 1) (c .before .before .before .before .before .before .pre .1 .1 .0 .0) (omega (arith, c .before .before .before .before .before .before .pre .1 .1 .0 .1)) (c .before .add .result) (c .before .add .ensures), search needs), ((remains-next (c .before .before .before .before .before .before .args .p) (c .before .before .before .before .before .before .args .matrix .now) (c .before .before .before .before .before .before .args .word .now) (c .before .before .before .before .before .before .pre .1 .0) (c .before .before .before .before .before .before .args .k) (c .before .before .before .before .before .before .args .left) (c .before .before .before .before .before .before .args .cell) (c .before .before .before .before .before .before .args .mag) (c .before .before .before .before .before .before .pre .1 .1 .0 .0) (omega (arith, c .before .before .before .before .before .before .pre .1 .1 .0 .1)) (c .before .before .before .before .before .before .pre .1 .1 .1 .0 .0) (c .before .before .before .before .before .before .args .rest .now) (c .before .before .lowered .result) (c .before .before .before .before .before .before .pre .1 .1 .1 .1 .0) (c .before .before .lowered .ensures) (c .before .add .result) (c .before .add .ensures)), (mag-first (codeWith (c .before .before .before .before .before .before .args .p) (c .before .before .before .before .before .before .args .matrix .now)) (c .before .before .before .before .before .before .args .k) (c .before .before .before .before .before .before .args .left) (c .before .before .before .before .before .before .args .cell) (c .before .before .before .before .before .before .args .mag) (omega (arith, c .before .before .before .before .before .before .pre .1 .1 .0 .1)) (c .before .before .before .before .before .before .pre .1 .1 .1 .0 .1) (c .before .before .before .before .before .before .pre .1 .1 .0 .0) (c .before .add .result) (c .before .add .ensures) _ _ (c .before .before .before .before .before .before .pre .1 .1 .1 .1 .1 .0), c .before .before .before .before .before .before .pre .1 .1 .1 .1 .1 .1)))))
 
 choose-magnitude-enum-known-inner : (t : ℕ) → choose-magnitude-lts.Need-enum-known-inner (
   lowered-reads.Asked,
@@ -258,7 +258,7 @@ choose-magnitude-add-if1 : (t : ℕ) → choose-magnitude-lts.Need-add-if1 (
   choose-magnitude-below t,
   choose-magnitude.Post,
 ) (choose-magnitude-at t) choose-magnitude.Post
-choose-magnitude-add-if1 t c = search needs
+choose-magnitude-add-if1 t c = omega (arith, c .before .before .before .before .before .before .before .before .before .before .pre .1 .1 .1 .0 .1, c .before .before .before .before .before .before .before .before .before .before .pre .1 .0 .ready .l-high, c .before .before .before .before .before .before .before .before .before .before .pre .1 .0 .ready .m-high, c .before .before .before .before .before .before .before .before .before .before .pre .1 .0 .ready .q-high)
 
 choose-magnitude-add-choose-magnitude : (t : ℕ) → choose-magnitude-lts.Need-add-choose-magnitude (
   lowered-reads.Asked,
@@ -283,7 +283,7 @@ choose-magnitude-choose-magnitude-requires :
       choose-magnitude-below t,
       choose-magnitude.Post,
     ) (choose-magnitude-at t) choose-magnitude.Post
-choose-magnitude-choose-magnitude-requires t c κs = (omega (arith, c .before .before .before .before .before .before .before .before .before .before .before .before .pre .0, c .before .before .before .before .before .before .before .before .before .before .before .before .pre .1 .1 .1 .0 .0, c .before .before .before .before .before .before .before .before .before .before .before .before .pre .1 .1 .1 .0 .1, c .before .before .before .before .before .before .before .before .before .before .before .before .pre .1 .0 .ready .l-high, c .before .before .before .before .before .before .before .before .before .before .before .before .pre .1 .0 .ready .m-high, c .before .before .before .before .before .before .before .before .before .before .before .before .pre .1 .0 .ready .q-high), ((c .before .before .before .before .before .before .before .before .before .before .before .before .pre .1 .0), ((c .before .before .before .before .before .before .before .before .before .before .before .before .pre .1 .1 .0), (((c .before .before .before .before .before .before .before .before .before .before .before .before .pre .1 .1 .1 .0 .0), c .before .if1 .left), ((remains-next (c .before .before .before .before .before .before .before .before .before .before .before .before .args .p) (c .before .before .before .before .before .before .before .before .before .before .before .before .args .matrix .now) (c .before .before .before .before .before .before .before .before .before .before .before .before .args .word .now) (c .before .before .before .before .before .before .before .before .before .before .before .before .pre .1 .0) (c .before .before .before .before .before .before .before .before .before .before .before .before .args .k) (c .before .before .before .before .before .before .before .before .before .before .before .before .args .left) (c .before .before .before .before .before .before .before .before .before .before .before .before .args .cell) (c .before .before .before .before .before .before .before .before .before .before .before .before .args .mag) (c .before .before .before .before .before .before .before .before .before .before .before .before .pre .1 .1 .0 .0) (omega (arith, c .before .before .before .before .before .before .before .before .before .before .before .before .pre .1 .1 .0 .1)) (c .before .before .before .before .before .before .before .before .before .before .before .before .pre .1 .1 .1 .0 .0) (c .before .before .before .before .before .before .before .before .before .before .before .before .args .rest .now) (c .before .before .before .before .before .before .before .before .lowered .result) (c .before .before .before .before .before .before .before .before .before .before .before .before .pre .1 .1 .1 .1 .0) (c .before .before .before .before .before .before .before .before .lowered .ensures) _ refl), mag-next (codeWith (c .before .before .before .before .before .before .before .before .before .before .before .before .args .p) (c .before .before .before .before .before .before .before .before .before .before .before .before .args .matrix .now)) (c .before .before .before .before .before .before .before .before .before .before .before .before .args .k) (c .before .before .before .before .before .before .before .before .before .before .before .before .args .left) (c .before .before .before .before .before .before .before .before .before .before .before .before .args .cell) (c .before .before .before .before .before .before .before .before .before .before .before .before .args .mag) (omega (arith, c .before .before .before .before .before .before .before .before .before .before .before .before .pre .1 .1 .0 .1)) (c .before .before .before .before .before .before .before .before .before .before .before .before .pre .1 .1 .1 .0 .1) (c .before .before .before .before .before .before .before .before .before .before .before .before .pre .1 .1 .0 .0) (c .before .before .before .before .before .before .before .add .result) (c .before .before .before .before .before .before .before .add .ensures) (testOf (c .before .before .before .before .before .before .before .before .before .before .before .before .args .wanted) (codeWith (c .before .before .before .before .before .before .before .before .before .before .before .before .args .p) (c .before .before .before .before .before .before .before .before .before .before .before .before .args .matrix .now)) (c .before .before .before .before .before .before .before .before .before .before .before .before .args .word .now)) (c .before .before .before .before .before .before .before .before .before .before .before .before .args .tried) (c .before .before .before .before .before .choose-cell .result) (c .before .before .before .before .before .choose-cell .ensures) _ _ (c .before .before .before .inner2 .given .1) (c .before .before .before .before .before .before .before .before .before .before .before .before .pre .1 .1 .1 .1 .1))))))
+choose-magnitude-choose-magnitude-requires t c κs = (omega (arith, c .before .before .before .before .before .before .before .before .before .before .before .before .pre .0, c .before .before .before .before .before .before .before .before .before .before .before .before .pre .1 .1 .1 .0 .0, c .before .before .before .before .before .before .before .before .before .before .before .before .pre .1 .1 .1 .0 .1, c .before .before .before .before .before .before .before .before .before .before .before .before .pre .1 .0 .ready .l-high, c .before .before .before .before .before .before .before .before .before .before .before .before .pre .1 .0 .ready .m-high, c .before .before .before .before .before .before .before .before .before .before .before .before .pre .1 .0 .ready .q-high), ((c .before .before .before .before .before .before .before .before .before .before .before .before .pre .1 .0), ((c .before .before .before .before .before .before .before .before .before .before .before .before .pre .1 .1 .0), (((c .before .before .before .before .before .before .before .before .before .before .before .before .pre .1 .1 .1 .0 .0), c .before .if1 .left), ((remains-next (c .before .before .before .before .before .before .before .before .before .before .before .before .args .p) (c .before .before .before .before .before .before .before .before .before .before .before .before .args .matrix .now) (c .before .before .before .before .before .before .before .before .before .before .before .before .args .word .now) (c .before .before .before .before .before .before .before .before .before .before .before .before .pre .1 .0) (c .before .before .before .before .before .before .before .before .before .before .before .before .args .k) (c .before .before .before .before .before .before .before .before .before .before .before .before .args .left) (c .before .before .before .before .before .before .before .before .before .before .before .before .args .cell) (c .before .before .before .before .before .before .before .before .before .before .before .before .args .mag) (c .before .before .before .before .before .before .before .before .before .before .before .before .pre .1 .1 .0 .0) (omega (arith, c .before .before .before .before .before .before .before .before .before .before .before .before .pre .1 .1 .0 .1)) (c .before .before .before .before .before .before .before .before .before .before .before .before .pre .1 .1 .1 .0 .0) (c .before .before .before .before .before .before .before .before .before .before .before .before .args .rest .now) (c .before .before .before .before .before .before .before .before .lowered .result) (c .before .before .before .before .before .before .before .before .before .before .before .before .pre .1 .1 .1 .1 .0) (c .before .before .before .before .before .before .before .before .lowered .ensures) _ refl), (mag-next (codeWith (c .before .before .before .before .before .before .before .before .before .before .before .before .args .p) (c .before .before .before .before .before .before .before .before .before .before .before .before .args .matrix .now)) (c .before .before .before .before .before .before .before .before .before .before .before .before .args .k) (c .before .before .before .before .before .before .before .before .before .before .before .before .args .left) (c .before .before .before .before .before .before .before .before .before .before .before .before .args .cell) (c .before .before .before .before .before .before .before .before .before .before .before .before .args .mag) (omega (arith, c .before .before .before .before .before .before .before .before .before .before .before .before .pre .1 .1 .0 .1)) (c .before .before .before .before .before .before .before .before .before .before .before .before .pre .1 .1 .1 .0 .1) (c .before .before .before .before .before .before .before .before .before .before .before .before .pre .1 .1 .0 .0) (c .before .before .before .before .before .before .before .add .result) (c .before .before .before .before .before .before .before .add .ensures) (testOf (c .before .before .before .before .before .before .before .before .before .before .before .before .args .wanted) (codeWith (c .before .before .before .before .before .before .before .before .before .before .before .before .args .p) (c .before .before .before .before .before .before .before .before .before .before .before .before .args .matrix .now)) (c .before .before .before .before .before .before .before .before .before .before .before .before .args .word .now)) (c .before .before .before .before .before .before .before .before .before .before .before .before .args .tried) (c .before .before .before .before .before .choose-cell .result) (c .before .before .before .before .before .choose-cell .ensures) _ _ (c .before .before .before .inner2 .given .1) (c .before .before .before .before .before .before .before .before .before .before .before .before .pre .1 .1 .1 .1 .1 .0), c .before .before .before .before .before .before .before .before .before .before .before .before .pre .1 .1 .1 .1 .1 .1))))))
 
 choose-magnitude-returns : (t : ℕ) → choose-magnitude-lts.Need-returns (
   lowered-reads.Asked,
@@ -324,8 +324,8 @@ choose-magnitude-returns-3 t c = c .choose-magnitude .ensures ∙ sym (mag-skip 
 pub +choose-cell+choose-magnitude-spec : {M : Type 1} → statement M
 +choose-cell+choose-magnitude-spec =
     close μ-choose-cell μ-choose-magnitude (λ t. choose-cell-lts.spec (
-      last-cell-reads.Asked,
-      last-cell-reads.Learnt,
+      last-choice-reads.Asked,
+      last-choice-reads.Learnt,
       choose-magnitude-below t,
       choose-magnitude.Post,
       choose-cell-below t,
@@ -333,7 +333,7 @@ pub +choose-cell+choose-magnitude-spec : {M : Type 1} → statement M
     )
     (choose-cell-at t)
     choose-cell.Post
-    (choose-cell-last-cell-requires t)
+    (choose-cell-last-choice-requires t)
     (choose-cell-returns t)
     (choose-cell-returns-2 t)
     (choose-cell-choose-magnitude-requires t)

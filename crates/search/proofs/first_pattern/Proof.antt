@@ -1,72 +1,57 @@
+use Rattle.search.proofs.Whole.{upTo, answer-none, answer-found, answer-counts, found-weighs, unrisen-weighs, none-tried, unrisen-passes, weight-done, room-all}
+use Rattle.search.proofs.Order.{all-tried}
+use Rattle.search.specs.Search.{testOf, seek, soughtAs}
+use Rattle.opening.specs.Opening.{codeWith}
+use lib.ListN.{length}
+use native.Mathlib.Nat.{zero-add}
+use mathlib.Core.Path.{_≡_, sym, ap, _∙_}
+use Prim.Native.Nat.{ℕ}
 use native.Mathlib.Omega.{arith}
 use borrow.Author.Needs.{needs}
-use Prim.Native.Nat.{ℕ, _+_, _-_, _≤_}
-use mathlib.Core.Path.{_≡_, sym, ap, _∙_}
-use mathlib.Core.Option.{none}
-use native.Mathlib.Nat.{zero-add, add-sub-cancel}
-use lib.ListN.{length}
-use Rattle.opening.specs.Opening.{codeWith}
-use Rattle.search.specs.Search.{testOf, seek, soughtAs}
-use Rattle.search.proofs.Order.{all-tried}
-use Rattle.search.proofs.Whole.{upTo, answer-none, answer-found, answer-counts, found-weighs, unrisen-weighs, unrisen-same, none-tried, unrisen-passes, weight-done, room-all}
-use Rattle.search.proofs.Choices.{chosen-none}
-use Rattle.search.proofs.Columns.{remains-all}
 use Rattle.search.proofs.first_pattern.Statement.{statement}
 use Rattle.search.proofs.first_pattern.Tie as tie
 
-abbrev Inv-loop : tie.InvT-loop
-Inv-loop matrix p word wanted target tried₀ weight₀ tried weight = (1 ≤ weight) × (weight ≤ p .t + 1) × (seek (testOf wanted (codeWith p matrix) word) (upTo (codeWith p matrix) (weight - 1)) 0 ≡ (none, tried))
+empty-passes-requires : tie.Need-empty-passes-requires
+empty-passes-requires c κs = search needs
 
-abbrev μ-loop : tie.MeasureT-loop
-μ-loop matrix p word wanted target tried₀ weight₀ tried weight = p .t + 1 - weight
+returns : tie.Need-returns
+returns c = (answer-found (codeWith (c .before .before .before .before .args .p) (c .before .before .before .before .args .matrix .now)) (testOf (c .before .before .before .before .args .wanted) (codeWith (c .before .before .before .before .args .p) (c .before .before .before .before .args .matrix .now)) (c .before .before .before .before .args .word .now)) _ 0 0 1 (search needs) (unrisen-passes (codeWith (c .before .before .before .before .args .p) (c .before .before .before .before .args .matrix .now)) (testOf (c .before .before .before .before .args .wanted) (codeWith (c .before .before .before .before .args .p) (c .before .before .before .before .args .matrix .now)) (c .before .before .before .before .args .word .now)) (sym (c .before .empty-passes .ensures) ∙ c .if1 .taken)), answer-counts (codeWith (c .before .before .before .before .args .p) (c .before .before .before .before .args .matrix .now)) (testOf (c .before .before .before .before .args .wanted) (codeWith (c .before .before .before .before .args .p) (c .before .before .before .before .args .matrix .now)) (c .before .before .before .before .args .word .now)) _ 0 0 1 (search needs) (unrisen-passes (codeWith (c .before .before .before .before .args .p) (c .before .before .before .before .args .matrix .now)) (testOf (c .before .before .before .before .args .wanted) (codeWith (c .before .before .before .before .args .p) (c .before .before .before .before .args .matrix .now)) (c .before .before .before .before .args .word .now)) (sym (c .before .empty-passes .ensures) ∙ c .if1 .taken)) (unrisen-weighs (codeWith (c .before .before .before .before .args .p) (c .before .before .before .before .args .matrix .now)) (testOf (c .before .before .before .before .args .wanted) (codeWith (c .before .before .before .before .args .p) (c .before .before .before .before .args .matrix .now)) (c .before .before .before .before .args .word .now)) (sym (c .before .empty-passes .ensures) ∙ c .if1 .taken)))
 
-passes-requires : tie.Need-passes-requires Inv-loop μ-loop
-passes-requires c κs = (c .before .before .before .pre .0, (chosen-none 1 (search needs), ((search needs, search needs), remains-all (codeWith (c .before .before .before .args .p) (c .before .before .before .args .matrix .now)) (c .before .before .before .args .word .now) (c .before .before .before .args .t4) (search needs) (c .before .before .before .pre .1))))
+returns-2 : tie.Need-returns-2
+returns-2 c = (answer-none (codeWith (c .before .before .before .before .before .before .args .p) (c .before .before .before .before .before .before .args .matrix .now)) (testOf (c .before .before .before .before .before .before .args .wanted) (codeWith (c .before .before .before .before .before .before .args .p) (c .before .before .before .before .before .before .args .matrix .now)) (c .before .before .before .before .before .before .args .word .now)) 1 (ap (λ (w : ℕ). seek (testOf (c .before .before .before .before .before .before .args .wanted) (codeWith (c .before .before .before .before .before .before .args .p) (c .before .before .before .before .before .before .args .matrix .now)) (c .before .before .before .before .before .before .args .word .now)) (upTo (codeWith (c .before .before .before .before .before .before .args .p) (c .before .before .before .before .before .before .args .matrix .now)) w) 0) (c .if2 .taken) ∙ (none-tried (codeWith (c .before .before .before .before .before .before .args .p) (c .before .before .before .before .before .before .args .matrix .now)) (testOf (c .before .before .before .before .before .before .args .wanted) (codeWith (c .before .before .before .before .before .before .args .p) (c .before .before .before .before .before .before .args .matrix .now)) (c .before .before .before .before .before .before .args .word .now)) (sym (c .before .before .before .empty-passes .ensures) ∙ c .before .before .if1 .left))), tt)
 
-returns : tie.Need-returns Inv-loop μ-loop
-returns c = (answer-found (codeWith (c .before .before .before .before .before .args .p) (c .before .before .before .before .before .args .matrix .now)) (testOf (c .before .before .before .before .before .args .wanted) (codeWith (c .before .before .before .before .before .args .p) (c .before .before .before .before .before .args .matrix .now)) (c .before .before .before .before .before .args .word .now)) _ 0 0 1 (search needs) (unrisen-passes (codeWith (c .before .before .before .before .before .args .p) (c .before .before .before .before .before .args .matrix .now)) (testOf (c .before .before .before .before .before .args .wanted) (codeWith (c .before .before .before .before .before .args .p) (c .before .before .before .before .before .args .matrix .now)) (c .before .before .before .before .before .args .word .now)) (sym (ap (testOf (c .before .before .before .before .before .args .wanted) (codeWith (c .before .before .before .before .before .args .p) (c .before .before .before .before .before .args .matrix .now)) (c .before .before .before .before .before .args .word .now)) (unrisen-same (c .before .before .before .before .before .args .p .n))) ∙ sym (c .before .passes .ensures) ∙ c .if1 .taken)), answer-counts (codeWith (c .before .before .before .before .before .args .p) (c .before .before .before .before .before .args .matrix .now)) (testOf (c .before .before .before .before .before .args .wanted) (codeWith (c .before .before .before .before .before .args .p) (c .before .before .before .before .before .args .matrix .now)) (c .before .before .before .before .before .args .word .now)) _ 0 0 1 (search needs) (unrisen-passes (codeWith (c .before .before .before .before .before .args .p) (c .before .before .before .before .before .args .matrix .now)) (testOf (c .before .before .before .before .before .args .wanted) (codeWith (c .before .before .before .before .before .args .p) (c .before .before .before .before .before .args .matrix .now)) (c .before .before .before .before .before .args .word .now)) (sym (ap (testOf (c .before .before .before .before .before .args .wanted) (codeWith (c .before .before .before .before .before .args .p) (c .before .before .before .before .before .args .matrix .now)) (c .before .before .before .before .before .args .word .now)) (unrisen-same (c .before .before .before .before .before .args .p .n))) ∙ sym (c .before .passes .ensures) ∙ c .if1 .taken)) (unrisen-weighs (codeWith (c .before .before .before .before .before .args .p) (c .before .before .before .before .before .args .matrix .now)) (testOf (c .before .before .before .before .before .args .wanted) (codeWith (c .before .before .before .before .before .args .p) (c .before .before .before .before .before .args .matrix .now)) (c .before .before .before .before .before .args .word .now)) (sym (ap (testOf (c .before .before .before .before .before .args .wanted) (codeWith (c .before .before .before .before .before .args .p) (c .before .before .before .before .before .args .matrix .now)) (c .before .before .before .before .before .args .word .now)) (unrisen-same (c .before .before .before .before .before .args .p .n))) ∙ sym (c .before .passes .ensures) ∙ c .if1 .taken)))
+of-weight-requires : tie.Need-of-weight-requires
+of-weight-requires c κs = (c .before .before .before .before .before .before .before .before .pre .0, (c .before .before .before .before .before .before .before .before .pre .1, ((search needs, search needs), (room-all (codeWith (c .before .before .before .before .before .before .before .before .args .p) (c .before .before .before .before .before .before .before .before .args .matrix .now)) 1 1 (omega arith) (search needs) (all-tried (testOf (c .before .before .before .before .before .before .before .before .args .wanted) (codeWith (c .before .before .before .before .before .before .before .before .args .p) (c .before .before .before .before .before .before .before .before .args .matrix .now)) (c .before .before .before .before .before .before .before .before .args .word .now)) (upTo (codeWith (c .before .before .before .before .before .before .before .before .args .p) (c .before .before .before .before .before .before .before .before .args .matrix .now)) 0) 0 1 (none-tried (codeWith (c .before .before .before .before .before .before .before .before .args .p) (c .before .before .before .before .before .before .before .before .args .matrix .now)) (testOf (c .before .before .before .before .before .before .before .before .args .wanted) (codeWith (c .before .before .before .before .before .before .before .before .args .p) (c .before .before .before .before .before .before .before .before .args .matrix .now)) (c .before .before .before .before .before .before .before .before .args .word .now)) (sym (c .before .before .before .before .before .empty-passes .ensures) ∙ c .before .before .before .before .if1 .left)) ∙ zero-add (length (upTo (codeWith (c .before .before .before .before .before .before .before .before .args .p) (c .before .before .before .before .before .before .before .before .args .matrix .now)) 0))) (c .before .before .before .before .before .before .before .before .pre .0 .ready .few), λ e. let z : _≡_ {A = ℕ} 0 1 = cc in absurd (omega arith)))))
 
-loop-holds : tie.Need-loop-holds Inv-loop μ-loop
-loop-holds c = (search needs, search needs, none-tried (codeWith (c .before .before .before .before .before .args .p) (c .before .before .before .before .before .args .matrix .now)) (testOf (c .before .before .before .before .before .args .wanted) (codeWith (c .before .before .before .before .before .args .p) (c .before .before .before .before .before .args .matrix .now)) (c .before .before .before .before .before .args .word .now)) (sym (ap (testOf (c .before .before .before .before .before .args .wanted) (codeWith (c .before .before .before .before .before .args .p) (c .before .before .before .before .before .args .matrix .now)) (c .before .before .before .before .before .args .word .now)) (unrisen-same (c .before .before .before .before .before .args .p .n))) ∙ sym (c .before .passes .ensures) ∙ c .if1 .left))
+enum-known-one : tie.Need-enum-known-one
+enum-known-one c = search needs
 
-choose-cell-requires : tie.Need-choose-cell-requires Inv-loop μ-loop
-choose-cell-requires c κs = (c .before .before .before .before .before .before .before .before .before .pre .0, ((chosen-none (c .before .before .before .loop .weight) (search needs), c .before .before .before .loop .inv .0), (remains-all (codeWith (c .before .before .before .before .before .before .before .before .before .args .p) (c .before .before .before .before .before .before .before .before .before .args .matrix .now)) (c .before .before .before .before .before .before .before .before .before .args .word .now) (c .before .before .before .before .before .before .before .before .before .args .t4) (search needs) (c .before .before .before .before .before .before .before .before .before .pre .1), room-all (codeWith (c .before .before .before .before .before .before .before .before .before .args .p) (c .before .before .before .before .before .before .before .before .before .args .matrix .now)) (c .before .before .before .loop .weight) (c .before .before .before .loop .tried) (c .before .before .before .loop .inv .0) (search needs) (all-tried (testOf (c .before .before .before .before .before .before .before .before .before .args .wanted) (codeWith (c .before .before .before .before .before .before .before .before .before .args .p) (c .before .before .before .before .before .before .before .before .before .args .matrix .now)) (c .before .before .before .before .before .before .before .before .before .args .word .now)) (upTo (codeWith (c .before .before .before .before .before .before .before .before .before .args .p) (c .before .before .before .before .before .before .before .before .before .args .matrix .now)) (c .before .before .before .loop .weight - 1)) 0 (c .before .before .before .loop .tried) (c .before .before .before .loop .inv .2) ∙ zero-add (length (upTo (codeWith (c .before .before .before .before .before .before .before .before .before .args .p) (c .before .before .before .before .before .before .before .before .before .args .matrix .now)) (c .before .before .before .loop .weight - 1)))) (c .before .before .before .before .before .before .before .before .before .pre .0 .ready .few))))
+enum-known-one-2 : tie.Need-enum-known-one-2
+enum-known-one-2 c = search needs
 
-enum-known-here : tie.Need-enum-known-here Inv-loop μ-loop
-enum-known-here c = search needs
+returns-3 : tie.Need-returns-3
+returns-3 c = (answer-none (codeWith (c .before .before .before .before .before .before .before .before .before .before .before .before .before .before .args .p) (c .before .before .before .before .before .before .before .before .before .before .before .before .before .before .args .matrix .now)) (testOf (c .before .before .before .before .before .before .before .before .before .before .before .before .before .before .args .wanted) (codeWith (c .before .before .before .before .before .before .before .before .before .before .before .before .before .before .args .p) (c .before .before .before .before .before .before .before .before .before .before .before .before .before .before .args .matrix .now)) (c .before .before .before .before .before .before .before .before .before .before .before .before .before .before .args .word .now)) _ (ap (λ (w : ℕ). seek (testOf (c .before .before .before .before .before .before .before .before .before .before .before .before .before .before .args .wanted) (codeWith (c .before .before .before .before .before .before .before .before .before .before .before .before .before .before .args .p) (c .before .before .before .before .before .before .before .before .before .before .before .before .before .before .args .matrix .now)) (c .before .before .before .before .before .before .before .before .before .before .before .before .before .before .args .word .now)) (upTo (codeWith (c .before .before .before .before .before .before .before .before .before .before .before .before .before .before .args .p) (c .before .before .before .before .before .before .before .before .before .before .before .before .before .before .args .matrix .now)) w) 0) (c .if3 .taken) ∙ (weight-done (codeWith (c .before .before .before .before .before .before .before .before .before .before .before .before .before .before .args .p) (c .before .before .before .before .before .before .before .before .before .before .before .before .before .before .args .matrix .now)) (testOf (c .before .before .before .before .before .before .before .before .before .before .before .before .before .before .args .wanted) (codeWith (c .before .before .before .before .before .before .before .before .before .before .before .before .before .before .args .p) (c .before .before .before .before .before .before .before .before .before .before .before .before .before .before .args .matrix .now)) (c .before .before .before .before .before .before .before .before .before .before .before .before .before .before .args .word .now)) 1 1 (omega arith) (none-tried (codeWith (c .before .before .before .before .before .before .before .before .before .before .before .before .before .before .args .p) (c .before .before .before .before .before .before .before .before .before .before .before .before .before .before .args .matrix .now)) (testOf (c .before .before .before .before .before .before .before .before .before .before .before .before .before .before .args .wanted) (codeWith (c .before .before .before .before .before .before .before .before .before .before .before .before .before .before .args .p) (c .before .before .before .before .before .before .before .before .before .before .before .before .before .before .args .matrix .now)) (c .before .before .before .before .before .before .before .before .before .before .before .before .before .before .args .word .now)) (sym (c .before .before .before .before .before .before .before .before .before .before .before .empty-passes .ensures) ∙ c .before .before .before .before .before .before .before .before .before .before .if1 .left)) _ (sym (ap (soughtAs (c .before .before .before .before .before .before .before .before .before .before .before .before .before .before .args .p .n)) (c .before .before .before .one2 .given .1)) ∙ c .before .before .before .before .before .of-weight .ensures))), tt)
 
-returns-2 : tie.Need-returns-2 Inv-loop μ-loop
-returns-2 c = (answer-found (codeWith (c .before .before .before .before .before .before .before .before .before .before .before .before .before .args .p) (c .before .before .before .before .before .before .before .before .before .before .before .before .before .args .matrix .now)) (testOf (c .before .before .before .before .before .before .before .before .before .before .before .before .before .args .wanted) (codeWith (c .before .before .before .before .before .before .before .before .before .before .before .before .before .args .p) (c .before .before .before .before .before .before .before .before .before .before .before .before .before .args .matrix .now)) (c .before .before .before .before .before .before .before .before .before .before .before .before .before .args .word .now)) _ (c .before .before .before .before .before .before .before .loop .weight) (c .before .before .before .before .before .before .before .loop .weight) _ (search needs) (weight-done (codeWith (c .before .before .before .before .before .before .before .before .before .before .before .before .before .args .p) (c .before .before .before .before .before .before .before .before .before .before .before .before .before .args .matrix .now)) (testOf (c .before .before .before .before .before .before .before .before .before .before .before .before .before .args .wanted) (codeWith (c .before .before .before .before .before .before .before .before .before .before .before .before .before .args .p) (c .before .before .before .before .before .before .before .before .before .before .before .before .before .args .matrix .now)) (c .before .before .before .before .before .before .before .before .before .before .before .before .before .args .word .now)) (c .before .before .before .before .before .before .before .loop .weight) (c .before .before .before .before .before .before .before .loop .tried) (c .before .before .before .before .before .before .before .loop .inv .0) (c .before .before .before .before .before .before .before .loop .inv .2) _ (sym (ap (soughtAs (c .before .before .before .before .before .before .before .before .before .before .before .before .before .args .p .n)) (c .before .here .given .1)) ∙ c .before .before .before .choose-cell .ensures)), answer-counts (codeWith (c .before .before .before .before .before .before .before .before .before .before .before .before .before .args .p) (c .before .before .before .before .before .before .before .before .before .before .before .before .before .args .matrix .now)) (testOf (c .before .before .before .before .before .before .before .before .before .before .before .before .before .args .wanted) (codeWith (c .before .before .before .before .before .before .before .before .before .before .before .before .before .args .p) (c .before .before .before .before .before .before .before .before .before .before .before .before .before .args .matrix .now)) (c .before .before .before .before .before .before .before .before .before .before .before .before .before .args .word .now)) _ (c .before .before .before .before .before .before .before .loop .weight) (c .before .before .before .before .before .before .before .loop .weight) _ (search needs) (weight-done (codeWith (c .before .before .before .before .before .before .before .before .before .before .before .before .before .args .p) (c .before .before .before .before .before .before .before .before .before .before .before .before .before .args .matrix .now)) (testOf (c .before .before .before .before .before .before .before .before .before .before .before .before .before .args .wanted) (codeWith (c .before .before .before .before .before .before .before .before .before .before .before .before .before .args .p) (c .before .before .before .before .before .before .before .before .before .before .before .before .before .args .matrix .now)) (c .before .before .before .before .before .before .before .before .before .before .before .before .before .args .word .now)) (c .before .before .before .before .before .before .before .loop .weight) (c .before .before .before .before .before .before .before .loop .tried) (c .before .before .before .before .before .before .before .loop .inv .0) (c .before .before .before .before .before .before .before .loop .inv .2) _ (sym (ap (soughtAs (c .before .before .before .before .before .before .before .before .before .before .before .before .before .args .p .n)) (c .before .here .given .1)) ∙ c .before .before .before .choose-cell .ensures)) (found-weighs (codeWith (c .before .before .before .before .before .before .before .before .before .before .before .before .before .args .p) (c .before .before .before .before .before .before .before .before .before .before .before .before .before .args .matrix .now)) (testOf (c .before .before .before .before .before .before .before .before .before .before .before .before .before .args .wanted) (codeWith (c .before .before .before .before .before .before .before .before .before .before .before .before .before .args .p) (c .before .before .before .before .before .before .before .before .before .before .before .before .before .args .matrix .now)) (c .before .before .before .before .before .before .before .before .before .before .before .before .before .args .word .now)) (c .before .before .before .before .before .before .before .loop .weight) (c .before .before .before .before .before .before .before .loop .tried) _ _ (sym (ap (soughtAs (c .before .before .before .before .before .before .before .before .before .before .before .before .before .args .p .n)) (c .before .here .given .1)) ∙ c .before .before .before .choose-cell .ensures)))
+heavier-requires : tie.Need-heavier-requires
+heavier-requires c κs = (c .before .before .before .before .before .before .before .before .before .before .before .before .before .before .pre .0, (c .before .before .before .before .before .before .before .before .before .before .before .before .before .before .pre .1, (search needs, (weight-done (codeWith (c .before .before .before .before .before .before .before .before .before .before .before .before .before .before .args .p) (c .before .before .before .before .before .before .before .before .before .before .before .before .before .before .args .matrix .now)) (testOf (c .before .before .before .before .before .before .before .before .before .before .before .before .before .before .args .wanted) (codeWith (c .before .before .before .before .before .before .before .before .before .before .before .before .before .before .args .p) (c .before .before .before .before .before .before .before .before .before .before .before .before .before .before .args .matrix .now)) (c .before .before .before .before .before .before .before .before .before .before .before .before .before .before .args .word .now)) 1 1 (omega arith) (none-tried (codeWith (c .before .before .before .before .before .before .before .before .before .before .before .before .before .before .args .p) (c .before .before .before .before .before .before .before .before .before .before .before .before .before .before .args .matrix .now)) (testOf (c .before .before .before .before .before .before .before .before .before .before .before .before .before .before .args .wanted) (codeWith (c .before .before .before .before .before .before .before .before .before .before .before .before .before .before .args .p) (c .before .before .before .before .before .before .before .before .before .before .before .before .before .before .args .matrix .now)) (c .before .before .before .before .before .before .before .before .before .before .before .before .before .before .args .word .now)) (sym (c .before .before .before .before .before .before .before .before .before .before .before .empty-passes .ensures) ∙ c .before .before .before .before .before .before .before .before .before .before .if1 .left)) _ (sym (ap (soughtAs (c .before .before .before .before .before .before .before .before .before .before .before .before .before .before .args .p .n)) (c .before .before .before .one2 .given .1)) ∙ c .before .before .before .before .before .of-weight .ensures)))))
 
-enum-known-here-2 : tie.Need-enum-known-here-2 Inv-loop μ-loop
-enum-known-here-2 c = search needs
+returns-4 : tie.Need-returns-4
+returns-4 c = (answer-found (codeWith (c .before .before .before .before .before .before .before .before .before .before .before .before .args .p) (c .before .before .before .before .before .before .before .before .before .before .before .before .args .matrix .now)) (testOf (c .before .before .before .before .before .before .before .before .before .before .before .before .args .wanted) (codeWith (c .before .before .before .before .before .before .before .before .before .before .before .before .args .p) (c .before .before .before .before .before .before .before .before .before .before .before .before .args .matrix .now)) (c .before .before .before .before .before .before .before .before .before .before .before .before .args .word .now)) _ 1 1 _ (search needs) (weight-done (codeWith (c .before .before .before .before .before .before .before .before .before .before .before .before .args .p) (c .before .before .before .before .before .before .before .before .before .before .before .before .args .matrix .now)) (testOf (c .before .before .before .before .before .before .before .before .before .before .before .before .args .wanted) (codeWith (c .before .before .before .before .before .before .before .before .before .before .before .before .args .p) (c .before .before .before .before .before .before .before .before .before .before .before .before .args .matrix .now)) (c .before .before .before .before .before .before .before .before .before .before .before .before .args .word .now)) 1 1 (omega arith) (none-tried (codeWith (c .before .before .before .before .before .before .before .before .before .before .before .before .args .p) (c .before .before .before .before .before .before .before .before .before .before .before .before .args .matrix .now)) (testOf (c .before .before .before .before .before .before .before .before .before .before .before .before .args .wanted) (codeWith (c .before .before .before .before .before .before .before .before .before .before .before .before .args .p) (c .before .before .before .before .before .before .before .before .before .before .before .before .args .matrix .now)) (c .before .before .before .before .before .before .before .before .before .before .before .before .args .word .now)) (sym (c .before .before .before .before .before .before .before .before .before .empty-passes .ensures) ∙ c .before .before .before .before .before .before .before .before .if1 .left)) _ (sym (ap (soughtAs (c .before .before .before .before .before .before .before .before .before .before .before .before .args .p .n)) (c .before .one .given .1)) ∙ c .before .before .before .of-weight .ensures)), answer-counts (codeWith (c .before .before .before .before .before .before .before .before .before .before .before .before .args .p) (c .before .before .before .before .before .before .before .before .before .before .before .before .args .matrix .now)) (testOf (c .before .before .before .before .before .before .before .before .before .before .before .before .args .wanted) (codeWith (c .before .before .before .before .before .before .before .before .before .before .before .before .args .p) (c .before .before .before .before .before .before .before .before .before .before .before .before .args .matrix .now)) (c .before .before .before .before .before .before .before .before .before .before .before .before .args .word .now)) _ 1 1 _ (search needs) (weight-done (codeWith (c .before .before .before .before .before .before .before .before .before .before .before .before .args .p) (c .before .before .before .before .before .before .before .before .before .before .before .before .args .matrix .now)) (testOf (c .before .before .before .before .before .before .before .before .before .before .before .before .args .wanted) (codeWith (c .before .before .before .before .before .before .before .before .before .before .before .before .args .p) (c .before .before .before .before .before .before .before .before .before .before .before .before .args .matrix .now)) (c .before .before .before .before .before .before .before .before .before .before .before .before .args .word .now)) 1 1 (omega arith) (none-tried (codeWith (c .before .before .before .before .before .before .before .before .before .before .before .before .args .p) (c .before .before .before .before .before .before .before .before .before .before .before .before .args .matrix .now)) (testOf (c .before .before .before .before .before .before .before .before .before .before .before .before .args .wanted) (codeWith (c .before .before .before .before .before .before .before .before .before .before .before .before .args .p) (c .before .before .before .before .before .before .before .before .before .before .before .before .args .matrix .now)) (c .before .before .before .before .before .before .before .before .before .before .before .before .args .word .now)) (sym (c .before .before .before .before .before .before .before .before .before .empty-passes .ensures) ∙ c .before .before .before .before .before .before .before .before .if1 .left)) _ (sym (ap (soughtAs (c .before .before .before .before .before .before .before .before .before .before .before .before .args .p .n)) (c .before .one .given .1)) ∙ c .before .before .before .of-weight .ensures)) (found-weighs (codeWith (c .before .before .before .before .before .before .before .before .before .before .before .before .args .p) (c .before .before .before .before .before .before .before .before .before .before .before .before .args .matrix .now)) (testOf (c .before .before .before .before .before .before .before .before .before .before .before .before .args .wanted) (codeWith (c .before .before .before .before .before .before .before .before .before .before .before .before .args .p) (c .before .before .before .before .before .before .before .before .before .before .before .before .args .matrix .now)) (c .before .before .before .before .before .before .before .before .before .before .before .before .args .word .now)) 1 1 _ _ (sym (ap (soughtAs (c .before .before .before .before .before .before .before .before .before .before .before .before .args .p .n)) (c .before .one .given .1)) ∙ c .before .before .before .of-weight .ensures)))
 
-add-weight : tie.Need-add-weight Inv-loop μ-loop
-add-weight c = search needs
-
-loop-less : tie.Need-loop-less Inv-loop μ-loop
-loop-less c = search needs
-
-loop-again : tie.Need-loop-again Inv-loop μ-loop
-loop-again c = (search needs, search needs, ap (λ (w : ℕ). seek (testOf (c .before .before .before .before .before .before .before .before .before .before .before .before .before .args .wanted) (codeWith (c .before .before .before .before .before .before .before .before .before .before .before .before .before .args .p) (c .before .before .before .before .before .before .before .before .before .before .before .before .before .args .matrix .now)) (c .before .before .before .before .before .before .before .before .before .before .before .before .before .args .word .now)) (upTo (codeWith (c .before .before .before .before .before .before .before .before .before .before .before .before .before .args .p) (c .before .before .before .before .before .before .before .before .before .before .before .before .before .args .matrix .now)) w) 0) (add-sub-cancel (c .before .before .before .before .before .before .before .loop .weight) 1) ∙ (weight-done (codeWith (c .before .before .before .before .before .before .before .before .before .before .before .before .before .args .p) (c .before .before .before .before .before .before .before .before .before .before .before .before .before .args .matrix .now)) (testOf (c .before .before .before .before .before .before .before .before .before .before .before .before .before .args .wanted) (codeWith (c .before .before .before .before .before .before .before .before .before .before .before .before .before .args .p) (c .before .before .before .before .before .before .before .before .before .before .before .before .before .args .matrix .now)) (c .before .before .before .before .before .before .before .before .before .before .before .before .before .args .word .now)) (c .before .before .before .before .before .before .before .loop .weight) (c .before .before .before .before .before .before .before .loop .tried) (c .before .before .before .before .before .before .before .loop .inv .0) (c .before .before .before .before .before .before .before .loop .inv .2) _ (sym (ap (soughtAs (c .before .before .before .before .before .before .before .before .before .before .before .before .before .args .p .n)) (c .before .here2 .given .1)) ∙ c .before .before .before .choose-cell .ensures)))
-
-returns-3 : tie.Need-returns-3 Inv-loop μ-loop
-returns-3 c = let e : c .before .before .loop .weight - 1 ≡ c .before .before .before .before .before .before .before .before .args .p .t = omega arith in (answer-none (codeWith (c .before .before .before .before .before .before .before .before .args .p) (c .before .before .before .before .before .before .before .before .args .matrix .now)) (testOf (c .before .before .before .before .before .before .before .before .args .wanted) (codeWith (c .before .before .before .before .before .before .before .before .args .p) (c .before .before .before .before .before .before .before .before .args .matrix .now)) (c .before .before .before .before .before .before .before .before .args .word .now)) (c .before .before .loop .tried) (ap (λ (w : ℕ). seek (testOf (c .before .before .before .before .before .before .before .before .args .wanted) (codeWith (c .before .before .before .before .before .before .before .before .args .p) (c .before .before .before .before .before .before .before .before .args .matrix .now)) (c .before .before .before .before .before .before .before .before .args .word .now)) (upTo (codeWith (c .before .before .before .before .before .before .before .before .args .p) (c .before .before .before .before .before .before .before .before .args .matrix .now)) w) 0) (sym e) ∙ c .before .before .loop .inv .2), tt)
+returns-5 : tie.Need-returns-5
+returns-5 c = search needs
 
 pub first-pattern-spec : {M : Type 1} → statement M
 first-pattern-spec =
     tie.close
     (tie.spec
-    Inv-loop
-    μ-loop
-    passes-requires
+    empty-passes-requires
     returns
-    loop-holds
-    choose-cell-requires
-    enum-known-here
     returns-2
-    enum-known-here-2
-    add-weight
-    loop-less
-    loop-again
-    returns-3)
+    of-weight-requires
+    enum-known-one
+    enum-known-one-2
+    returns-3
+    heavier-requires
+    returns-4
+    returns-5)

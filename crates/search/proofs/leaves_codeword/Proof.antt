@@ -1,72 +1,50 @@
-use borrow.Author.Count.{below-more}
-use mathlib.Core.Logic.{⊎-elim}
-use Rattle.search.proofs.Fits.{above-fails, ceiling-fails, cells-fit}
-use native.Mathlib.Omega.{arith}
-use borrow.Author.Needs.{needs}
-use Prim.Native.Nat.{ℕ, _-_, _≤_, _<_}
-use Rattle.definitions.specs.Words.{at}
+use Rattle.search.proofs.Fits.{above-fails, chosen-under, no-ceiling}
 use Rattle.opening.specs.Opening.{codeWith}
-use Rattle.search.specs.Search.{magnitudeAt}
+use borrow.Author.Needs.{needs}
 use Rattle.search.proofs.leaves_codeword.Statement.{statement}
 use Rattle.search.proofs.leaves_codeword.Tie as tie
 
-abbrev Inv-loop : tie.InvT-loop
-Inv-loop matrix word k n w high i₀ i = (i ≤ n) × ((j : ℕ) → j < i → (magnitudeAt k j ≤ at word j) × (w ≤ j → at word j - magnitudeAt k j < high))
+is-above-requires : tie.Need-is-above-requires
+is-above-requires c κs = search needs
 
-abbrev μ-loop : tie.MeasureT-loop
-μ-loop matrix word k n w high i₀ i = n - i
+returns : tie.Need-returns
+returns c = above-fails (codeWith (c .before .before .before .before .args .p) (c .before .before .before .before .args .matrix .now)) (c .before .before .before .before .args .word .now) (c .before .before .before .before .args .k) (c .before .before .before .before .pre .0 .long) (c .before .before .before .before .args .k .c1) _ (c .before .is-above .ensures) (c .if1 .taken)
 
-sub-w : tie.Need-sub-w Inv-loop μ-loop
-sub-w c = search needs
+is-above-requires-2 : tie.Need-is-above-requires-2
+is-above-requires-2 c κs = search needs
 
-ceiling-requires : tie.Need-ceiling-requires Inv-loop μ-loop
+returns-2 : tie.Need-returns-2
+returns-2 c = above-fails (codeWith (c .before .before .before .before .before .before .args .p) (c .before .before .before .before .before .before .args .matrix .now)) (c .before .before .before .before .before .before .args .word .now) (c .before .before .before .before .before .before .args .k) (c .before .before .before .before .before .before .pre .0 .long) (c .before .before .before .before .before .before .args .k .c2) _ (c .before .is-above2 .ensures) (c .if2 .taken)
+
+is-above-requires-3 : tie.Need-is-above-requires-3
+is-above-requires-3 c κs = search needs
+
+returns-3 : tie.Need-returns-3
+returns-3 c = above-fails (codeWith (c .before .before .before .before .before .before .before .before .args .p) (c .before .before .before .before .before .before .before .before .args .matrix .now)) (c .before .before .before .before .before .before .before .before .args .word .now) (c .before .before .before .before .before .before .before .before .args .k) (c .before .before .before .before .before .before .before .before .pre .0 .long) (c .before .before .before .before .before .before .before .before .args .k .c3) _ (c .before .is-above3 .ensures) (c .if3 .taken)
+
+ceiling-requires : tie.Need-ceiling-requires
 ceiling-requires c κs = search needs
 
-loop-holds : tie.Need-loop-holds Inv-loop μ-loop
-loop-holds c = (search needs, λ j h. absurd (omega arith))
+returns-4 : tie.Need-returns-4
+returns-4 c = no-ceiling (codeWith (c .before .before .before .before .before .before .before .before .before .before .args .p) (c .before .before .before .before .before .before .before .before .before .before .args .matrix .now)) (c .before .before .before .before .before .before .before .before .before .before .args .word .now) (c .before .before .before .before .before .before .before .before .before .before .args .k) (c .before .before .before .before .before .before .before .before .before .before .pre .0 .long) (search needs) (c .before .before .before .before .before .before .before .before .before .before .pre .0 .levels) (c .before .before .before .before .before .before .before .before .before .before .pre .1) (chosen-under (codeWith (c .before .before .before .before .before .before .before .before .before .before .args .p) (c .before .before .before .before .before .before .before .before .before .before .args .matrix .now)) (c .before .before .before .before .before .before .before .before .before .before .args .word .now) (c .before .before .before .before .before .before .before .before .before .before .args .k) (c .before .before .before .before .before .before .before .before .before .before .pre .0 .long) _ _ _ (c .before .before .before .before .before .before .before .is-above .ensures) (c .before .before .before .before .before .before .if1 .left) (c .before .before .before .before .before .is-above2 .ensures) (c .before .before .before .before .if2 .left) (c .before .before .before .is-above3 .ensures) (c .before .before .if3 .left)) _ (c .before .ceiling .ensures .0) (c .if4 .taken)
 
-magnitude-at-requires : tie.Need-magnitude-at-requires Inv-loop μ-loop
-magnitude-at-requires c κs = search needs
+checks-fit-requires : tie.Need-checks-fit-requires
+checks-fit-requires c κs = (c .before .before .before .before .before .before .before .before .before .before .pre .0, (c .before .before .before .before .before .before .before .before .before .before .pre .1, ((chosen-under (codeWith (c .before .before .before .before .before .before .before .before .before .before .args .p) (c .before .before .before .before .before .before .before .before .before .before .args .matrix .now)) (c .before .before .before .before .before .before .before .before .before .before .args .word .now) (c .before .before .before .before .before .before .before .before .before .before .args .k) (c .before .before .before .before .before .before .before .before .before .before .pre .0 .long) _ _ _ (c .before .before .before .before .before .before .before .is-above .ensures) (c .before .before .before .before .before .before .if1 .left) (c .before .before .before .before .before .is-above2 .ensures) (c .before .before .before .before .if2 .left) (c .before .before .before .is-above3 .ensures) (c .before .before .if3 .left)), c .before .ceiling .ensures .0)))
 
-shared-slice-read-wide : tie.Need-shared-slice-read-wide Inv-loop μ-loop
-shared-slice-read-wide c = search needs
-
-wide-requires : tie.Need-wide-requires Inv-loop μ-loop
-wide-requires c κs = search needs
-
-returns : tie.Need-returns Inv-loop μ-loop
-returns c = above-fails (codeWith (c .before .before .before .before .before .before .before .before .before .before .args .p) (c .before .before .before .before .before .before .before .before .before .before .args .matrix .now)) (c .before .before .before .before .before .before .before .before .before .before .args .word .now) (c .before .before .before .before .before .before .before .before .before .before .args .k) (c .before .before .before .before .before .before .before .before .before .before .pre .0 .long) (c .before .before .before .before .before .loop .i) _ _ (search needs) (c .before .wide .ensures .0) (c .before .before .before .magnitude-at .ensures) (c .if1 .taken)
-
-returns-2 : tie.Need-returns-2 Inv-loop μ-loop
-returns-2 c = ceiling-fails (codeWith (c .before .before .before .before .before .before .before .before .before .before .before .before .args .p) (c .before .before .before .before .before .before .before .before .before .before .before .before .args .matrix .now)) (c .before .before .before .before .before .before .before .before .before .before .before .before .args .word .now) (c .before .before .before .before .before .before .before .before .before .before .before .before .args .k) (c .before .before .before .before .before .before .before .before .before .before .before .before .pre .0 .long) (c .before .before .before .before .before .before .before .loop .i) _ _ _ (search needs) (c .before .before .before .wide .ensures .0) (c .before .before .before .before .before .magnitude-at .ensures) (c .before .if2 .taken) (c .before .before .before .before .before .before .before .before .ceiling .ensures .0) (c .if3 .taken)
-
-add-i : tie.Need-add-i Inv-loop μ-loop
-add-i c = search needs
-
-loop-less : tie.Need-loop-less Inv-loop μ-loop
-loop-less c = search needs
-
-loop-again : tie.Need-loop-again Inv-loop μ-loop
-loop-again c = (search needs, below-more _ _ (c .before .before .before .before .before .before .loop .inv .1) (omega (arith, c .before .before .wide .ensures .0, c .before .before .before .before .magnitude-at .ensures), λ w. ⊎-elim (λ x. omega (arith, c .before .before .wide .ensures .0, c .before .before .before .before .magnitude-at .ensures)) (λ x. omega arith) (c .if2 .came)))
-
-returns-3 : tie.Need-returns-3 Inv-loop μ-loop
-returns-3 c = cells-fit (codeWith (c .before .before .before .before .before .before .args .p) (c .before .before .before .before .before .before .args .matrix .now)) (c .before .before .before .before .before .before .args .word .now) (c .before .before .before .before .before .before .args .k) (c .before .before .before .before .before .before .pre .0 .long) (search needs) (c .before .before .before .before .before .before .pre .0 .levels) (c .before .before .before .before .before .before .pre .1) _ (c .before .before .ceiling .ensures .0) (λ i h. c .before .loop .inv .1 i (omega arith))
+returns-5 : tie.Need-returns-5
+returns-5 c = search needs
 
 pub leaves-codeword-spec : {M : Type 1} → statement M
 leaves-codeword-spec =
     tie.close
     (tie.spec
-    Inv-loop
-    μ-loop
-    sub-w
-    ceiling-requires
-    loop-holds
-    magnitude-at-requires
-    shared-slice-read-wide
-    wide-requires
+    is-above-requires
     returns
+    is-above-requires-2
     returns-2
-    add-i
-    loop-less
-    loop-again
-    returns-3)
+    is-above-requires-3
+    returns-3
+    ceiling-requires
+    returns-4
+    checks-fit-requires
+    returns-5)
