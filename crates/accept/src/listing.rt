@@ -9,12 +9,6 @@ ghost use Rattle.opening.specs.Opening.{codeWith, Ready};
 ghost use Rattle.accept.specs.Listing.{columnEntry, Columns, Listable, raised, syndromesFrom, raisedFurther, syndromes};
 ghost use Rattle.accept.specs.Keys.{packed, Stored};
 
-fn long(x: u8) -> u64
-    ensures { λ r. ⌜ (r ≡ x) × (r ≤ 255) ⌝ }
-{
-    x as u64
-}
-
 // A sum of two entries, modulo m: at most one subtraction.
 fn sum(a: u8, b: u8, m: u8) -> u8
     requires { ⌜ (a < m) × (b < m) × (m ≤ 64) ⌝ }
@@ -78,7 +72,13 @@ fn raise(columns: &[u8; 1024], m: usize, cell: usize, s: [u8; 16]) -> [u8; 16]
 fn pack(a: u8, b: u8, c: u8, d: u8, e: u8, f: u8) -> u64
     ensures { λ r. ⌜ r ≡ packed a b c d e f ⌝ }
 {
-    long(a) + 64 * (long(b) + 64 * (long(c) + 64 * (long(d) + 64 * (long(e) + 64 * long(f)))))
+    opening::long(a)
+        + 64
+            * (opening::long(b)
+                + 64
+                    * (opening::long(c)
+                        + 64
+                            * (opening::long(d) + 64 * (opening::long(e) + 64 * opening::long(f)))))
 }
 
 // The keys of one pattern's syndrome.

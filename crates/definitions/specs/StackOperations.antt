@@ -1,5 +1,5 @@
 -- The operations on stacks, for every byte string and every buffer: document 01's refusals in their order.
-use mathlib.Core.Bool.{_&&_, not}
+use mathlib.Core.Bool.{Bool, _&&_, not}
 use mathlib.Core.List.{List, [], _∷_}
 use Prim.Native.Nat.{ℕ, zero, suc, _+_, _*_, _-_}
 use lib.Dec.{eqb, leb, ltb}
@@ -19,10 +19,14 @@ abbrev pub planeOf : ℕ → List ℕ → Code
 planeOf n b =
     record { n = n; r = at b 1; q = at b 0; M = at b 0; l = at b 0 - 1; t = at b 2; A = take (at b 1 * (n - at b 1)) (drop 3 b) }
 
+-- document 01's ranges of a plane's c, r and t in a stack of n cells
+abbrev pub planeInRange : ℕ → ℕ → ℕ → ℕ → Bool
+planeInRange n c r t = between 2 c 64 && (leb r 12 && ltb r n) && (leb t 3 && leb t n)
+
 unfoldable pub openPlane : ℕ → List ℕ → Answer Code
 openPlane n b =
     refuse 1 when ltb (length b) 3 else
-    refuse 2 when not (between 2 (at b 0) 64 && (leb (at b 1) 12 && ltb (at b 1) n) && (leb (at b 2) 3 && leb (at b 2) n)) else
+    refuse 2 when not (planeInRange n (at b 0) (at b 1) (at b 2)) else
     refuse 3 when ltb (length b) (3 + at b 1 * (n - at b 1)) else
     refuse 4 when not (allBelow (at b 0) (planeOf n b .A)) else
     refuse 5 when ltb 4096 (patternCount (planeOf n b)) else
@@ -34,11 +38,15 @@ openPlanes zero n b = refuse 3 when not (eqb (length b) 0) else given []
 openPlanes (suc m) n b =
     after (openPlane n b) λ p. after (openPlanes m n (drop (3 + at b 1 * (n - at b 1)) b)) λ ps. given (p ∷ ps)
 
+-- document 01's ranges of a stack's cells and planes
+abbrev pub stackInRange : ℕ → ℕ → Bool
+stackInRange n m = between 1 n 64 && between 1 m 6
+
 -- document 01: open a stack
 unfoldable pub openStack : List ℕ → Answer Stack
 openStack b =
     refuse 1 when ltb (length b) 2 else
-    refuse 2 when not (between 1 (at b 0) 64 && between 1 (at b 1) 6) else
+    refuse 2 when not (stackInRange (at b 0) (at b 1)) else
     after (openPlanes (at b 1) (at b 0) (drop 2 b)) λ ps.
     refuse 7 when ltb 64 (product ps) else
     given (record { n = at b 0; planes = ps })

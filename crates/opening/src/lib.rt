@@ -77,6 +77,13 @@ pub fn wide(x: u8) -> usize
     x as usize
 }
 
+// A byte as a number to pack with others.
+pub fn long(x: u8) -> u64
+    ensures { λ r. ⌜ (r ≡ x) × (r ≤ 255) ⌝ }
+{
+    x as u64
+}
+
 // The largest byte, or 0: a loop with one exit, which runs on many bytes at a time.
 fn largest(s: &[u8]) -> u8
     ensures { λ r. ⌜ ((b : ℕ) → 0 < b → ltb r b ≡ allBelow b (now (s .entry))) ⌝ }

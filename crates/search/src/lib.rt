@@ -294,27 +294,23 @@ fn column_of(matrix: &[u8], p: Parameters, cell: usize) -> [u8; 12]
     s
 }
 
-fn long(x: u8) -> u64
-    ensures { λ r. ⌜ (r ≡ x) × (r ≤ 255) ⌝ }
-{
-    x as u64
-}
-
 fn key(s: [u8; 12]) -> u64
     ensures { λ r. ⌜ r ≡ keyOf (at s) ⌝ }
 {
-    long(s[0])
+    opening::long(s[0])
         + 256
-            * (long(s[1])
+            * (opening::long(s[1])
                 + 256
-                    * (long(s[2])
+                    * (opening::long(s[2])
                         + 256
-                            * (long(s[3])
+                            * (opening::long(s[3])
                                 + 256
-                                    * (long(s[4])
+                                    * (opening::long(s[4])
                                         + 256
-                                            * (long(s[5])
-                                                + 256 * (long(s[6]) + 256 * long(s[7])))))))
+                                            * (opening::long(s[5])
+                                                + 256
+                                                    * (opening::long(s[6])
+                                                        + 256 * opening::long(s[7])))))))
 }
 
 // The keys of the columns of the first `end` cells.

@@ -13,12 +13,12 @@ use Rattle.definitions.specs.Words.{at, allBelow}
 use Rattle.definitions.specs.Answers.{Answer, given, refused, refuse_when_else_}
 use Rattle.definitions.specs.Codes.{Code, dataCells}
 use Rattle.definitions.specs.Patterns.{patternCount}
-use Rattle.definitions.specs.StackOperations.{planeOf, openPlane}
+use Rattle.definitions.specs.StackOperations.{planeOf, planeInRange, openPlane}
 use Rattle.definitions.proofs.Tests.{and-left, and-right, below-each}
 use Rattle.opening.specs.Opening.{codeWith, refusalNumber}
 use Rattle.opening.specs.declared.Refusal.{Refusal}
 use Rattle.opening.proofs.Ready.{from4}
-use Rattle.stack_opening.specs.StackOpening.{planeInRange, planeParameters, planeRefusalOf, planeIn, planeOpenedAs, PlaneAt, Placed}
+use Rattle.stack_opening.specs.StackOpening.{planeParameters, planeRefusalOf, planeIn, planeOpenedAs, PlaneAt, Placed}
 use Rattle.stack_opening.specs.declared.Plane.{Plane}
 use Rattle.stack_opening.specs.declared.PlaneOpened.{PlaneOpened}
 use Rattle.stack_opening.specs.declared.PlaneOpened.the-variants.{Open, Refused}

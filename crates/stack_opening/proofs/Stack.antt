@@ -11,13 +11,13 @@ use Rattle.definitions.specs.Words.{at}
 use Rattle.definitions.specs.Answers.{Answer, given, refused, refusedAt, refuse_when_else_, after}
 use Rattle.definitions.specs.Codes.{Code}
 use Rattle.definitions.specs.Stacks.{Stack, product, levels}
-use Rattle.definitions.specs.StackOperations.{openPlanes, openStack}
+use Rattle.definitions.specs.StackOperations.{openPlanes, stackInRange, openStack}
 use Rattle.definitions.proofs.Tests.{and-left, and-right}
 use Rattle.code.proofs.Refusals.{not-refused, passed, after-given}
 use Rattle.digit_planes.proofs.Opened.{stack-opened}
 use Rattle.opening.specs.Opening.{refusalNumber}
 use Rattle.opening.specs.declared.Refusal.{Refusal}
-use Rattle.stack_opening.specs.StackOpening.{stackInRange, stackRefusalOf, stackOpenedAs, stackOf, summary, StackReady}
+use Rattle.stack_opening.specs.StackOpening.{stackRefusalOf, stackOpenedAs, stackOf, summary, StackReady}
 use Rattle.stack_opening.specs.declared.StackParameters.{StackParameters}
 use Rattle.stack_opening.specs.declared.StackOpened.{StackOpened}
 use Rattle.stack_opening.specs.declared.StackOpened.the-variants.{Open, Refused}

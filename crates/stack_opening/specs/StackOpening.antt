@@ -1,13 +1,10 @@
 -- What the answers of opening a stack and its planes mean in document 01's numbers and values.
 use mathlib.Core.Path.{_≡_}
-use mathlib.Core.Bool.{Bool, _&&_}
 use mathlib.Core.List.{List}
 use Prim.Native.Nat.{ℕ, _+_, _*_, _-_, _≤_}
-use lib.Dec.{leb, ltb}
 use lib.ListN.{length, take, drop}
 use Rattle.definitions.specs.Answers.{Answer, given, refused, after}
 use Rattle.definitions.specs.Codes.{Code}
-use Rattle.definitions.specs.CodeOperations.{between}
 use Rattle.definitions.specs.Stacks.{Stack, levels}
 use Rattle.definitions.specs.StackOperations.{openPlanes, openStack}
 use Rattle.opening.specs.Opening.{refusalNumber, codeWith, Ready}
@@ -21,17 +18,9 @@ use Rattle.stack_opening.specs.declared.StackParameters.{StackParameters
 use Rattle.stack_opening.specs.declared.StackOpened.{StackOpened}
 use Rattle.stack_opening.specs.declared.StackOpened.the-variants as stack
 
--- document 01's ranges of a plane's c, r and t in a stack of n cells
-abbrev pub planeInRange : ℕ → ℕ → ℕ → ℕ → Bool
-planeInRange n c r t = between 2 c 64 && (leb r 12 && ltb r n) && (leb t 3 && leb t n)
-
 -- a plane's parameters as a code's: "q = M = c and l = c−1"
 abbrev pub planeParameters : ℕ → ℕ → ℕ → ℕ → Parameters
 planeParameters n c r t = record { n = n; r = r; q = c; m = c; l = c - 1; t = t }
-
--- document 01's ranges of a stack's cells and planes
-abbrev pub stackInRange : ℕ → ℕ → Bool
-stackInRange n m = between 1 n 64 && between 1 m 6
 
 -- the refusal of a plane that did not open; of one that opened there is none, and the first stands in
 abbrev pub planeRefusalOf : PlaneOpened → Refusal

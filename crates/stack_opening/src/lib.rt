@@ -2,8 +2,8 @@
 ghost use mathlib.Core.Path.{_≡_};
 ghost use Prim.Native.Nat.{_≤_};
 ghost use lib.ListN.{length, drop};
-ghost use Rattle.definitions.specs.StackOperations.{openPlane, openPlanes, openStack};
-ghost use Rattle.stack_opening.specs.StackOpening.{planeInRange, planeParameters, stackInRange, planeRefusalOf, planeOpenedAs, Placed, stackRefusalOf, stackOpenedAs, stackOf, summary};
+ghost use Rattle.definitions.specs.StackOperations.{planeInRange, openPlane, openPlanes, stackInRange, openStack};
+ghost use Rattle.stack_opening.specs.StackOpening.{planeParameters, planeRefusalOf, planeOpenedAs, Placed, stackRefusalOf, stackOpenedAs, stackOf, summary};
 use opening::Parameters;
 use opening::Refusal;
 

@@ -9,9 +9,8 @@ use borrow.Author.Needs.{needs}
 use borrow.Author.Tests.{lt-ltb}
 use Rattle.definitions.specs.Answers.{Answer, refuse_when_else_}
 use Rattle.definitions.specs.Codes.{Code}
-use Rattle.definitions.specs.StackOperations.{openPlanes, openStack}
+use Rattle.definitions.specs.StackOperations.{openPlanes, stackInRange, openStack}
 use Rattle.opening.proofs.Ready.{holds}
-use Rattle.stack_opening.specs.StackOpening.{stackInRange}
 use Rattle.stack_opening.proofs.Stack.{withinLevels, ranges, opens, planes-refused, levels-above, levels-within, answer-open, answer-refused}
 use Rattle.stack_opening.proofs.open_stack.Statement.{statement}
 use Rattle.stack_opening.proofs.open_stack.Tie as tie
