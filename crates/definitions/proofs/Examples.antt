@@ -1,6 +1,6 @@
--- Document 01's examples hold: one test that is computed over the table, and one law that turns it into the equations.
+-- Document 01's examples hold, and further ones: one test that is computed over a table, and one law that turns it into the equations.
 use mathlib.Core.Path.{_≡_, refl, ap, ap₂}
-use mathlib.Core.Bool.{Bool, true, false, _&&_}
+use mathlib.Core.Bool.{Bool, true, false, _&&_, not}
 use mathlib.Core.List.{List, [], _∷_}
 use Prim.Native.Nat.{ℕ}
 use lib.Dec.{T, eqb, eqb→eq}
@@ -12,13 +12,22 @@ use Rattle.definitions.specs.Codewords.{syndromeEntry, syndrome, isCodew
 use Rattle.definitions.specs.Patterns.{patternsOf, patternCount}
 use Rattle.definitions.specs.Acceptance.{accepted}
 use Rattle.definitions.specs.Decoding.{sameSyndrome, fits, decode}
-use Rattle.definitions.specs.Messages.{symbolsFit, checkLevel, encode}
-use Rattle.definitions.specs.CodeOperations.{inRange, openCode, testCode, encodeCode, decodeCode}
-use Rattle.definitions.specs.StackCodewords.{acceptedStack}
+use Rattle.definitions.specs.Messages.{symbolsFit, checkLevel, encode, message}
+use Rattle.definitions.specs.CodeOperations.{inRange, openCode, testCode, encodeCode, decodeCode, recoverCode}
+use Rattle.definitions.specs.StackCodewords.{isStackCodeword, acceptedStack}
+use Rattle.definitions.specs.StackMessages.{stackMessage, encodeWord}
 use Rattle.definitions.specs.StackDecoding.{firstWithSyndrome, decodePlanes, decodeWord}
-use Rattle.definitions.specs.StackOperations.{openPlane, openPlanes, openStack, testStack, decodeStack}
+use Rattle.definitions.specs.StackOperations.{openPlane, openPlanes, openStack, testStack, encodeStack, decodeStack, recoverStack}
+use Rattle.definitions.specs.Images.{contentsRight, checkImage, RowRecord, decodeRow, readRow}
+use Rattle.definitions.specs.CartridgeLists.{linesOf}
 use Rattle.definitions.specs.Circular.{decodeCircular}
-use Rattle.definitions.specs.Examples.{Example, opens, tests, testsStack, encodes, decodes, decodesStack, circular, patterns, Holds, AllHold, lent, R, F, S, H, K, G, table}
+use Rattle.definitions.specs.Examples.{Example, opens, tests, testsStack, encodes, decodes, decodesStack, circular, patterns}
+use Rattle.definitions.specs.Examples.{checks, readsRow, lists, writes, passes, Holds, AllHold, lent, R, F, S, H, K, G, table}
+use Rattle.definitions.specs.PowersOfTwo.{log2, isPowerOfTwo}
+use Rattle.definitions.specs.Labels.{gray, reversed, madeTable, isPermutation}
+use Rattle.definitions.specs.LabelOperations.{makeLabels, applicable, toLevels, toStates}
+use Rattle.definitions.specs.LabelExamples.{labels, three}
+use Rattle.definitions.specs.FurtherExamples.{Z, documentImage, stackImage, further}
 use Rattle.definitions.proofs.Tests.{and-left, and-right, same-eq}
 
 -- equality of answers as a test, given one of what they give; and what it shows
@@ -70,6 +79,25 @@ pairs-eq a b h =
     ap₂ {C = ℕ × List ℕ} (λ x y. (x, y)) (eqb→eq (a .0) (b .0) (and-left (eqb (a .0) (b .0)) (sameWord (a .1) (b .1)) h))
     (same-eq (a .1) (b .1) (and-right (eqb (a .0) (b .0)) (sameWord (a .1) (b .1)) h))
 
+abbrev sameRecord : RowRecord → RowRecord → Bool
+sameRecord a b = eqb (a .entry) (b .entry) && sameAnswer eqb (a .outcome) (b .outcome)
+
+records-eq : (a b : RowRecord) → T (sameRecord a b) → a ≡ b
+records-eq a b h =
+    ap₂ {C = RowRecord} (λ x y. record { entry = x; outcome = y })
+    (eqb→eq (a .entry) (b .entry) (and-left (eqb (a .entry) (b .entry)) (sameAnswer eqb (a .outcome) (b .outcome)) h))
+    (answers-eq eqb eqb→eq (a .outcome) (b .outcome) (and-right (eqb (a .entry) (b .entry)) (sameAnswer eqb (a .outcome) (b .outcome)) h))
+
+abbrev sameTest : Bool → Bool → Bool
+sameTest true t = t
+sameTest false t = not t
+
+tests-eq : (a b : Bool) → T (sameTest a b) → a ≡ b
+tests-eq true true h = refl
+tests-eq true false h = absurd h
+tests-eq false true h = absurd h
+tests-eq false false h = refl
+
 abbrev holds : Example → Bool
 holds (opens b a) = sameAnswer anyUnit (after (openCode b) (λ p. given tt)) a
 holds (tests b a) = sameAnswer anyUnit (testCode b) a
@@ -79,6 +107,11 @@ holds (decodes b y r) = sameResult eqb (decodeCode b y (lent (length y))) r
 holds (decodesStack b y r) = sameResult eqb (decodeStack b y (lent (length y))) r
 holds (circular b y a) = sameAnswer samePair (decodeCircular (codeOf b) y) a
 holds (patterns b k) = eqb (length (patternsOf (codeOf b))) k
+holds (checks x a) = sameAnswer anyUnit (checkImage x) a
+holds (readsRow x k n r) = sameResult sameRecord (readRow x k (lent n)) r
+holds (lists x t) = sameWord (linesOf x) t
+holds (writes r e) = sameResult anyUnit r e
+holds (passes t e) = sameTest t e
 
 shown : (x : Example) → T (holds x) → Holds x
 shown (opens b a) h = answers-eq anyUnit units-eq (after (openCode b) (λ p. given tt)) a h
@@ -89,6 +122,11 @@ shown (decodes b y r) h = results-eq eqb eqb→eq (decodeCode b y (lent (length 
 shown (decodesStack b y r) h = results-eq eqb eqb→eq (decodeStack b y (lent (length y))) r h
 shown (circular b y a) h = answers-eq samePair pairs-eq (decodeCircular (codeOf b) y) a h
 shown (patterns b k) h = eqb→eq (length (patternsOf (codeOf b))) k h
+shown (checks x a) h = answers-eq anyUnit units-eq (checkImage x) a h
+shown (readsRow x k n r) h = results-eq sameRecord records-eq (readRow x k (lent n)) r h
+shown (lists x t) h = same-eq (linesOf x) t h
+shown (writes r e) h = results-eq anyUnit units-eq r e h
+shown (passes t e) h = tests-eq t e h
 
 abbrev allHold : List Example → Bool
 allHold [] = true
@@ -103,8 +141,29 @@ unfolding
     table R F S H K G
     syndromeEntry syndrome isCodeword patternsOf patternCount accepted sameSyndrome fits decode symbolsFit checkLevel encode
     inRange openCode testCode encodeCode decodeCode
-    acceptedStack firstWithSyndrome decodePlanes decodeWord openPlane openPlanes openStack testStack decodeStack decodeCircular
+    firstWithSyndrome decodePlanes decodeWord openPlane openPlanes openStack decodeStack
 computed = tt
+
+further-computed : T (allHold further)
+unfolding
+    further documentImage stackImage R F S H K G Z
+    syndromeEntry syndrome isCodeword patternsOf patternCount accepted sameSyndrome fits decode checkLevel encode message
+    inRange openCode testCode decodeCode recoverCode decodeStack
+    contentsRight checkImage decodeRow readRow linesOf
+    acceptedStack isStackCodeword stackMessage encodeWord firstWithSyndrome
+    openPlane openPlanes openStack testStack encodeStack recoverStack decodeCircular decodePlanes decodeWord
+further-computed = tt
+
+labels-computed : T (allHold labels)
+unfolding
+    labels three log2 isPowerOfTwo gray reversed madeTable isPermutation makeLabels applicable toLevels toStates
+labels-computed = tt
 
 pub examples : AllHold table
 examples = all-shown table computed
+
+pub further-examples : AllHold further
+further-examples = all-shown further further-computed
+
+pub label-examples : AllHold labels
+label-examples = all-shown labels labels-computed

@@ -1,3 +1,6 @@
+-- what the tests of the definitions show: each is the proposition beside it
 pub mod Tests
+-- document 01's examples hold, and further ones: one test that is computed over a table, and one law that turns it into the equations
 pub mod Examples
+-- within reach, at document 01's examples
 pub mod ReachExamples

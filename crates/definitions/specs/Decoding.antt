@@ -23,7 +23,8 @@ module _ {A : Type 0} where
 unfoldable pub sameSyndrome : Code → List ℕ → List ℕ → Bool
 sameSyndrome p y e = sameWord (syndrome p e) (syndrome p y)
 
--- "whose residues equal the row's, that is nowhere above the row, and whose subtraction leaves a codeword"
+-- "whose residues equal the row's, that is nowhere above the row, and whose subtraction leaves a codeword". Subtraction stops at 0, so
+-- without the second test a pattern above the row could seem to fit
 unfoldable pub fits : Code → List ℕ → List ℕ → Bool
 fits p y e = sameSyndrome p y e && nowhereAbove e y && isCodeword p (subtract y e)
 

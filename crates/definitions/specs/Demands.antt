@@ -72,10 +72,14 @@ pub record DistanceDecides (K : Coding) (y : List ℕ) (answer : Answer ℕ) (ou
   -- "every other such row is refused 11"
   pub other : ((c : List ℕ) → WithinReach K y c → ⊥) ↔ (number answer ≡ some 11)
 
--- what holds of reading without acceptance: all of demand 3 but that there is one codeword
+-- what holds of each reading, of a stack's word too: what is given back is a codeword within reach, and the count is its distance
+abbrev pub GivenWithinReach : Coding → List ℕ → Answer ℕ → List ℕ → Type 0
+GivenWithinReach K y answer out = (k : ℕ) → answer ≡ given k → WithinReach K y out × (k ≡ distance out y)
+
+-- what holds of reading a code's word without acceptance: all of demand 3 but that there is one codeword
 pub record SomeCodeword (K : Coding) (y : List ℕ) (answer : Answer ℕ) (out : List ℕ) : Type 0 where
   pub exactly : ((k : ℕ) × (answer ≡ given k)) ↔ ((c : List ℕ) × WithinReach K y c)
-  pub back : (k : ℕ) → answer ≡ given k → WithinReach K y out × (k ≡ distance out y)
+  pub back : GivenWithinReach K y answer out
   pub other : ((c : List ℕ) → WithinReach K y c → ⊥) ↔ (number answer ≡ some 11)
 
 -- kept messages, of reading the word y

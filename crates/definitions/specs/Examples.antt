@@ -1,5 +1,6 @@
--- Examples a to l of document 01, as a table.
+-- Examples a to l of document 01, as a table. Rows beyond them are in FurtherExamples.
 use mathlib.Core.Path.{_≡_}
+use mathlib.Core.Bool.{Bool}
 use mathlib.Core.List.{List, [], _∷_, _++_}
 use Prim.Native.Nat.{ℕ}
 use lib.ListN.{length, replicate}
@@ -8,6 +9,8 @@ use Rattle.definitions.specs.Codes.{codeOf}
 use Rattle.definitions.specs.Patterns.{patternsOf}
 use Rattle.definitions.specs.CodeOperations.{openCode, testCode, encodeCode, decodeCode}
 use Rattle.definitions.specs.StackOperations.{testStack, decodeStack}
+use Rattle.definitions.specs.Images.{checkImage, RowRecord, readRow}
+use Rattle.definitions.specs.CartridgeLists.{linesOf}
 use Rattle.definitions.specs.Circular.{decodeCircular}
 
 -- an operation with its input, and what is expected of it
@@ -18,6 +21,13 @@ pub data Example : Type 0 where
   decodes decodesStack : List ℕ → List ℕ → Result ℕ → Example
   circular : List ℕ → List ℕ → Answer (ℕ × List ℕ) → Example
   patterns : List ℕ → ℕ → Example
+  checks : List ℕ → Answer (Unit {0}) → Example
+  -- an image, an entry number, and the cells of the output row
+  readsRow : List ℕ → ℕ → ℕ → Result RowRecord → Example
+  lists : List ℕ → List ℕ → Example
+  -- any operation that writes; any test
+  writes : Result (Unit {0}) → Result (Unit {0}) → Example
+  passes : Bool → Bool → Example
 
 -- a buffer of n cells, as lent
 abbrev pub lent : ℕ → List ℕ
@@ -32,6 +42,11 @@ Holds (decodes b y r) = decodeCode b y (lent (length y)) ≡ r
 Holds (decodesStack b y r) = decodeStack b y (lent (length y)) ≡ r
 Holds (circular b y a) = decodeCircular (codeOf b) y ≡ a
 Holds (patterns b k) = length (patternsOf (codeOf b)) ≡ k
+Holds (checks x a) = checkImage x ≡ a
+Holds (readsRow x k n r) = readRow x k (lent n) ≡ r
+Holds (lists x t) = linesOf x ≡ t
+Holds (writes r e) = r ≡ e
+Holds (passes t e) = t ≡ e
 
 -- results: given back, with a report; refused by a number, the buffer as lent
 abbrev pub back : {A : Type 0} → A → List ℕ → Result A
@@ -62,7 +77,7 @@ H = 4 ∷ 3 ∷ 8 ∷ 3 ∷ 2 ∷ 1 ∷ 2 ∷ 2 ∷ 2 ∷ []
 unfoldable pub K : List ℕ
 K = 2 ∷ 1 ∷ 2 ∷ 1 ∷ 0 ∷ 1 ∷ []
 
--- a code that is not accepted
+-- the code of example g that is not accepted
 unfoldable pub G : List ℕ
 G = 2 ∷ 1 ∷ 8 ∷ 2 ∷ 1 ∷ 1 ∷ 1 ∷ []
 
@@ -98,16 +113,6 @@ table =
     ∷ opens (45 ∷ 0 ∷ 3 ∷ 3 ∷ 2 ∷ 2 ∷ []) (given tt)
     ∷ patterns (46 ∷ 0 ∷ 3 ∷ 3 ∷ 2 ∷ 2 ∷ []) 4233
     ∷ opens (46 ∷ 0 ∷ 3 ∷ 3 ∷ 2 ∷ 2 ∷ []) (refused 5)
-    -- what the theorems suppose can be met: these are accepted
-    ∷ tests R (given tt)
-    ∷ tests F (given tt)
-    ∷ tests H (given tt)
-    ∷ testsStack S (given tt)
-    ∷ testsStack K (given tt)
-    -- circular reading raises 0 to the top level where d is refused; without acceptance it may differ from a word given back
-    ∷ circular R (0 ∷ 1 ∷ 1 ∷ 1 ∷ 1 ∷ []) (given (1, 7 ∷ 1 ∷ 1 ∷ 1 ∷ 1 ∷ []))
-    ∷ decodes G (0 ∷ 1 ∷ []) (back 1 (zeros 2))
-    ∷ circular G (0 ∷ 1 ∷ []) (given (1, 7 ∷ 1 ∷ []))
     ∷ []
 
 -- the joint theorem: proofs/Examples.antt

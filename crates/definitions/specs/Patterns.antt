@@ -29,9 +29,13 @@ abbrev pub patterns : List ℕ → ℕ → ℕ → List (List ℕ)
 patterns mags zero n = ofWeight mags 0 n
 patterns mags (suc t) n = patterns mags t n ++ ofWeight mags (suc t) n
 
+-- the magnitudes of a risen cell: 1 to l
+abbrev pub magnitudes : Code → List ℕ
+magnitudes p = upFrom 1 (p .l)
+
 -- the patterns of a code, in the order in which they are tried
 unfoldable pub patternsOf : Code → List (List ℕ)
-patternsOf p = patterns (upFrom 1 (p .l)) (p .t) (p .n)
+patternsOf p = patterns (magnitudes p) (p .t) (p .n)
 
 -- C(n, i): the ways to choose i of n cells
 abbrev pub binomial : ℕ → ℕ → ℕ
@@ -59,10 +63,10 @@ risenFrom i (suc v ∷ e) = (i, suc v) ∷ risenFrom (suc i) e
 abbrev pub Smaller : ℕ × ℕ → ℕ × ℕ → Type 0
 Smaller a b = (a .0 < b .0) ⊎ ((a .0 ≡ b .0) × (a .1 < b .1))
 
--- lexicographically smaller
+-- lexicographically smaller, of equally many
 abbrev pub Lower : List (ℕ × ℕ) → List (ℕ × ℕ) → Type 0
-Lower xs [] = ⊥
-Lower [] (y ∷ ys) = Unit {0}
+Lower [] ys = ⊥
+Lower (x ∷ xs) [] = ⊥
 Lower (x ∷ xs) (y ∷ ys) = Smaller x y ⊎ ((x ≡ y) × Lower xs ys)
 
 -- the order of patterns: fewer risen cells; then the risen cells from cell 1 upward, each with its magnitude

@@ -1,0 +1,111 @@
+-- Operations on codes that answer wrongly do not meet the demands. Witnesses: R, the words 4 5 3 2 1 and
+-- 0 1 1 1 1, and the message 3 2 1 0 0.
+use mathlib.Core.Path.{_≡_, refl}
+use mathlib.Core.List.{List, [], _∷_}
+use mathlib.Core.Option.{some}
+use Prim.Native.Nat.{ℕ}
+use native.Mathlib.Omega.{arith}
+use lib.Dec.{lit≤}
+use Rattle.definitions.specs.Answers.{Answer, given, refused, number}
+use Rattle.definitions.specs.Codes.{Code, codeOf}
+use Rattle.definitions.specs.Codewords.{syndromeEntry, syndrome, Codeword, isCodeword}
+use Rattle.definitions.specs.Patterns.{patternsOf, patternCount}
+use Rattle.definitions.specs.Acceptance.{Accepted, accepted}
+use Rattle.definitions.specs.Decoding.{sameSyndrome, fits, decode}
+use Rattle.definitions.specs.Messages.{message}
+use Rattle.definitions.specs.CodeOperations.{inRange, openCode, decodeCode}
+use Rattle.definitions.specs.Demands.{ofCode, Tested, OneCodeword, Recovered, DistanceDecides, SomeCodeword, KeepsMessages, WithinReach}
+use Rattle.definitions.specs.Examples.{R, lent, zeros}
+use Rattle.code_theorems.proofs.Codewords.{test-codeword}
+use Rattle.code_theorems.proofs.Acceptance.{acceptance}
+use Rattle.code_theorems.proofs.Demands.{decode-demand}
+
+pub code : Code
+code = codeOf R
+
+-- what was read, the codeword within its reach, and the message that the codeword carries
+abbrev read : List ℕ
+read = 4 ∷ 5 ∷ 3 ∷ 2 ∷ 1 ∷ []
+
+abbrev written : List ℕ
+written = 3 ∷ 5 ∷ 3 ∷ 1 ∷ 1 ∷ []
+
+abbrev carried : List ℕ
+carried = 3 ∷ 2 ∷ 1 ∷ 0 ∷ 0 ∷ []
+
+fit : Accepted code
+unfolding code R accepted patternsOf syndrome syndromeEntry
+fit = acceptance (codeOf R) .0 tt
+
+codeword : Codeword code written
+unfolding code R isCodeword syndrome syndromeEntry
+codeword = test-codeword (codeOf R) written tt
+
+near : WithinReach (ofCode code) read written
+unfolding code R
+near = (codeword, record { cells = omega arith; few = lit≤ tt })
+
+itself : WithinReach (ofCode code) written written
+unfolding code R
+itself = (codeword, record { cells = omega arith; few = lit≤ tt })
+
+-- a word beyond the reach of every codeword (example d)
+abbrev beyond : List ℕ
+beyond = 0 ∷ 1 ∷ 1 ∷ 1 ∷ 1 ∷ []
+
+opens : openCode R ≡ given (codeOf R)
+unfolding R openCode inRange patternCount
+opens = refl
+
+refused-11 : number (decodeCode R beyond (lent 5) .answer) ≡ some 11
+unfolding R openCode inRange patternCount decodeCode decode fits sameSyndrome patternsOf isCodeword syndrome syndromeEntry
+refused-11 = refl
+
+differ : {A : Type 0} {k : ℕ} {a : A} → refused k ≡ given a → ⊥
+differ e = let z : _≡_ {A = ℕ} 0 1 = cc in omega arith
+
+-- a test that finds every code unfit
+pub always-unfit : Tested (Accepted code) (refused 6) → ⊥
+always-unfit h = differ (h .fit .1 fit)
+
+-- a reader that reports no codeword before it tries a pattern, even the empty one
+pub before-trying : (out : List ℕ) → DistanceDecides (ofCode code) written (refused 11) out → ⊥
+before-trying out h = differ (h .count written itself)
+
+-- a reader that always refuses
+pub always-refuses : (k : ℕ) (out : List ℕ) → DistanceDecides (ofCode code) read (refused k) out → ⊥
+always-refuses k out h = differ (h .count written near)
+
+-- a reader that refuses a word by another number where no codeword is within reach
+pub other-number : (k : ℕ) (out : List ℕ) → (k ≡ 11 → ⊥) → DistanceDecides (ofCode code) beyond (refused k) out → ⊥
+unfolding code R
+other-number k out other h =
+    let none = decode-demand R (codeOf R) opens beyond (lent 5) refl refl (omega arith) fit .other .1 refused-11 in
+    let e : some k ≡ some 11 = h .other .0 none in
+    other (cc)
+
+-- an invented count
+pub invented-count : (k : ℕ) (out : List ℕ) → (k ≡ 2 → ⊥) → DistanceDecides (ofCode code) read (given k) out → ⊥
+invented-count k out other h = let e : _≡_ {A = Answer ℕ} (given k) (given 2) = h .count written near in other (cc)
+
+-- a writer that emits one fixed codeword
+pub fixed-codeword : OneCodeword (ofCode code) carried (given tt) (zeros 5) → ⊥
+unfolding code R message
+fixed-codeword h = let e = h .carries in let z : _≡_ {A = ℕ} 0 3 = cc in omega arith
+
+-- a writer that leaves its buffer as lent
+pub silent-writer : OneCodeword (ofCode code) carried (given tt) (lent 5) → ⊥
+unfolding code R
+silent-writer h = let b = h .codeword .levels .0 in omega arith
+
+-- a recovery that leaves its buffer as lent
+pub silent-recovery : Recovered (ofCode code) written (given tt) (lent 5) → ⊥
+unfolding code R
+silent-recovery h = let b = h .isMessage .levels .0 in omega arith
+
+-- readers that refuse a word although a codeword is within its reach, or a codeword itself
+pub refuses-within-reach : (out : List ℕ) → SomeCodeword (ofCode code) read (refused 11) out → ⊥
+refuses-within-reach out h = h .other .1 refl written near
+
+pub refuses-codeword : (k : ℕ) (out : List ℕ) → KeepsMessages (ofCode code) written (refused k) out → ⊥
+refuses-codeword k out h = differ (h .still codeword .0)

@@ -1,0 +1,94 @@
+-- A second table under the law of the first: rows that show that what the theorems suppose can be met, and rows that stop a wrong
+-- definition which examples a to l let through.
+use mathlib.Core.Bool.{false}
+use mathlib.Core.List.{List, [], _∷_, _++_}
+use Prim.Native.Nat.{ℕ}
+use Rattle.definitions.specs.Answers.{given, refused, refusedAt}
+use Rattle.definitions.specs.Codes.{codeOf}
+use Rattle.definitions.specs.Decoding.{fits}
+use Rattle.definitions.specs.CodeOperations.{recoverCode}
+use Rattle.definitions.specs.StackOperations.{encodeStack, recoverStack}
+use Rattle.definitions.specs.Examples.{Example, tests, testsStack, decodes, circular, checks, readsRow, lists, writes, passes}
+use Rattle.definitions.specs.Examples.{lent, zeros, back, declined, R, F, S, H, K, G}
+
+-- no cell may rise
+unfoldable pub Z : List ℕ
+Z = 2 ∷ 1 ∷ 8 ∷ 2 ∷ 1 ∷ 0 ∷ 0 ∷ []
+
+-- an image of two entries, six bytes each, and their bodies
+abbrev pub imageOf : List ℕ → List ℕ → List ℕ → List ℕ
+imageOf a b bodies = 2 ∷ a ++ b ++ bodies
+
+-- an entry's bytes, with an offset and a length below 256
+abbrev pub entry : ℕ → ℕ → ℕ → ℕ → List ℕ
+entry kind reference offset length = kind ∷ reference ∷ offset ∷ 0 ∷ length ∷ 0 ∷ []
+
+-- the row of example b
+abbrev pub row : List ℕ
+row = 4 ∷ 5 ∷ 3 ∷ 2 ∷ 1 ∷ []
+
+-- document 01's image
+unfoldable pub documentImage : List ℕ
+documentImage = imageOf (entry 1 0 13 10) (entry 3 1 23 5) (R ++ row)
+
+-- example k as an image
+unfoldable pub stackImage : List ℕ
+stackImage = imageOf (entry 2 0 13 6) (entry 3 1 19 2) (K ++ 0 ∷ 1 ∷ [])
+
+unfoldable pub further : List Example
+further =
+    -- these are accepted
+    tests R (given tt)
+    ∷ tests F (given tt)
+    ∷ tests H (given tt)
+    ∷ testsStack S (given tt)
+    ∷ testsStack K (given tt)
+    -- messages recovered, and a stack's written
+    ∷ writes (recoverCode R (3 ∷ 5 ∷ 3 ∷ 1 ∷ 1 ∷ []) (lent 5)) (back tt (3 ∷ 2 ∷ 1 ∷ 0 ∷ 0 ∷ []))
+    ∷ writes (encodeStack S (1 ∷ 0 ∷ 1 ∷ []) (lent 3)) (back tt (5 ∷ 5 ∷ 5 ∷ []))
+    ∷ writes (recoverStack S (5 ∷ 5 ∷ 5 ∷ []) (lent 3)) (back tt (1 ∷ 0 ∷ 1 ∷ []))
+    -- circular reading raises 0 to the top level where d is refused; without acceptance it may differ from a word given back
+    ∷ circular R (0 ∷ 1 ∷ 1 ∷ 1 ∷ 1 ∷ []) (given (1, 7 ∷ 1 ∷ 1 ∷ 1 ∷ 1 ∷ []))
+    ∷ decodes G (0 ∷ 1 ∷ []) (back 1 (zeros 2))
+    ∷ circular G (0 ∷ 1 ∷ []) (given (1, 7 ∷ 1 ∷ []))
+    -- it too refuses 11 where no pattern has the syndrome
+    ∷ circular Z (0 ∷ 1 ∷ []) (refused 11)
+    -- a pattern above the word does not fit, though its subtraction, which stops at 0, leaves a codeword
+    ∷ passes (fits (codeOf (2 ∷ 1 ∷ 8 ∷ 2 ∷ 1 ∷ 1 ∷ 0 ∷ [])) (zeros 2) (1 ∷ 0 ∷ [])) false
+    -- document 01's image
+    ∷ checks documentImage (given tt)
+    ∷ readsRow documentImage 2 5 (back (record { entry = 2; outcome = given 2 }) (3 ∷ 5 ∷ 3 ∷ 1 ∷ 1 ∷ []))
+    -- `row 2 count 2 levels 3 5 3 1 1`
+    ∷ lists documentImage
+    (114 ∷ 111 ∷ 119 ∷ 32 ∷ 50
+    ∷ 32 ∷ 99 ∷ 111 ∷ 117 ∷ 110 ∷ 116 ∷ 32 ∷ 50
+    ∷ 32 ∷ 108 ∷ 101 ∷ 118 ∷ 101 ∷ 108 ∷ 115 ∷ 32 ∷ 51 ∷ 32 ∷ 53 ∷ 32 ∷ 51 ∷ 32 ∷ 49 ∷ 32 ∷ 49 ∷ 10 ∷ [])
+    -- numbers that are no row's entry
+    ∷ readsRow documentImage 0 5 (declined 2 5)
+    ∷ readsRow documentImage 1 5 (declined 2 5)
+    ∷ readsRow documentImage 3 5 (declined 2 5)
+    -- an output row of wrong length is put in the record, and a stack's 11 with its plane, which is not printed: `row 2 refused 11`
+    ∷ readsRow documentImage 2 4 (back (record { entry = 2; outcome = refused 8 }) (lent 4))
+    ∷ readsRow stackImage 2 2 (back (record { entry = 2; outcome = refusedAt 11 0 }) (lent 2))
+    ∷ lists stackImage (114 ∷ 111 ∷ 119 ∷ 32 ∷ 50 ∷ 32 ∷ 114 ∷ 101 ∷ 102 ∷ 117 ∷ 115 ∷ 101 ∷ 100 ∷ 32 ∷ 49 ∷ 49 ∷ 10 ∷ [])
+    -- no row, no line
+    ∷ lists (1 ∷ entry 1 0 7 10 ++ R) []
+    -- 15: no bytes; no entries; a directory cut short; kinds 0 and 4; a gap; bytes after the last body; `image refused 15`
+    ∷ checks [] (refused 15)
+    ∷ checks (0 ∷ []) (refused 15)
+    ∷ checks (2 ∷ entry 1 0 7 10 ++ R) (refused 15)
+    ∷ checks (imageOf (entry 1 0 13 10) (entry 0 0 23 5) (R ++ row)) (refused 15)
+    ∷ checks (imageOf (entry 1 0 13 10) (entry 4 0 23 5) (R ++ row)) (refused 15)
+    ∷ checks (imageOf (entry 1 0 13 10) (entry 3 1 24 5) (R ++ 0 ∷ row)) (refused 15)
+    ∷ checks (imageOf (entry 1 0 13 10) (entry 3 1 23 5) (R ++ row ++ 0 ∷ [])) (refused 15)
+    ∷ lists [] (105 ∷ 109 ∷ 97 ∷ 103 ∷ 101 ∷ 32 ∷ 114 ∷ 101 ∷ 102 ∷ 117 ∷ 115 ∷ 101 ∷ 100 ∷ 32 ∷ 49 ∷ 53 ∷ 10 ∷ [])
+    -- 16: a body that its test refuses; a plan's reference; a row's reference to 0, to itself, to a later plan, to a row
+    ∷ checks (imageOf (entry 1 0 13 7) (entry 3 1 20 2) (G ++ 0 ∷ 1 ∷ [])) (refused 16)
+    ∷ checks (imageOf (entry 1 1 13 10) (entry 3 1 23 5) (R ++ row)) (refused 16)
+    ∷ checks (imageOf (entry 1 0 13 10) (entry 3 0 23 5) (R ++ row)) (refused 16)
+    ∷ checks (imageOf (entry 1 0 13 10) (entry 3 2 23 5) (R ++ row)) (refused 16)
+    ∷ checks (imageOf (entry 3 2 13 5) (entry 1 0 18 10) (row ++ R)) (refused 16)
+    ∷ checks (3 ∷ entry 1 0 19 10 ++ entry 3 1 29 5 ++ entry 3 2 34 5 ++ R ++ row ++ row) (refused 16)
+    -- 15 of a later entry comes before 16
+    ∷ checks (imageOf (entry 1 0 13 7) (entry 4 0 20 2) (G ++ 0 ∷ 1 ∷ [])) (refused 15)
+    ∷ []

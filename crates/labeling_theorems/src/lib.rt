@@ -1,0 +1,1 @@
+// Theorems about labelings, from document 01's definitions: see proofs/. There is no code here.
