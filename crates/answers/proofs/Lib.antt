@@ -1,1 +1,2 @@
+-- what the operations begin with: the refusals of the description, then 8
 pub mod Beginning

@@ -8,7 +8,7 @@ use borrow.Author.Tests.{leb-true, leb-false}
 use Rattle.definitions.specs.Codes.{Code}
 use Rattle.definitions.specs.CodeOperations.{inRange}
 use Rattle.definitions.proofs.Tests.{and-both}
-use Rattle.code.proofs.Opened.{Ranges, ranges}
+use Rattle.code_theorems.proofs.Opened.{Ranges, ranges}
 
 pub outside : (p : Code) → (Ranges p → ⊥) → false ≡ inRange p
 outside p h = step (inRange p) refl

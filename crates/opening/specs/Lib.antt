@@ -1,1 +1,2 @@
+-- what the answers of opening mean in document 01's numbers and values
 pub mod Opening

@@ -1,49 +1,16 @@
-// Opening a description: from its bytes to a code's parameters, or to a refusal.
+// Opening a description: from its bytes to a code's parameters and the place of its matrix, or to a refusal.
+use answers::Refusal;
 ghost use mathlib.Core.Path.{_≡_};
+ghost use mathlib.Core.Bool.{true};
 ghost use mathlib.Core.List.{List};
-ghost use Prim.Native.Nat.{ℕ, suc, _*_, _^_, _-_, _≤_, _<_};
-ghost use lib.Dec.{ltb};
+ghost use Prim.Native.Nat.{ℕ, suc, _+_, _*_, _^_, _-_, _≤_, _<_};
 ghost use lib.ListN.{length, drop};
-ghost use Rattle.definitions.specs.Words.{sumTo, allBelow};
+ghost use Rattle.definitions.specs.Words.{sumTo};
 ghost use Rattle.definitions.specs.Codes.{codeOf};
 ghost use Rattle.definitions.specs.Patterns.{binomial};
 ghost use Rattle.definitions.specs.CodeOperations.{inRange, openCode};
-ghost use Rattle.opening.specs.Opening.{refusalNumber, refusalOf, codeWith, openedAs};
-
-// The refusals of codes and stacks, 1 to 12 in document 01's numbers.
-pub enum Refusal {
-    TooShort,
-    OutOfRange,
-    WrongLength,
-    EntryTooLarge,
-    TooManyPatterns,
-    NotAccepted,
-    TooManyLevels,
-    WrongBuffer,
-    SymbolTooLarge,
-    LevelTooLarge,
-    NoCodewordInReach,
-    NotACodeword,
-}
-
-pub fn refusal_number(r: Refusal) -> usize
-    ensures { λ n. ⌜ n ≡ refusalNumber r ⌝ }
-{
-    match r {
-        Refusal::TooShort => 1,
-        Refusal::OutOfRange => 2,
-        Refusal::WrongLength => 3,
-        Refusal::EntryTooLarge => 4,
-        Refusal::TooManyPatterns => 5,
-        Refusal::NotAccepted => 6,
-        Refusal::TooManyLevels => 7,
-        Refusal::WrongBuffer => 8,
-        Refusal::SymbolTooLarge => 9,
-        Refusal::LevelTooLarge => 10,
-        Refusal::NoCodewordInReach => 11,
-        Refusal::NotACodeword => 12,
-    }
-}
+ghost use Rattle.answers.specs.declared.Refusal.{Refusal};
+ghost use Rattle.opening.specs.Opening.{codeWith, part, openedAs, Placed, matrixTested};
 
 // The parameters of a code; m is document 01's M. The matrix stays in the lent description.
 pub struct Parameters {
@@ -55,59 +22,29 @@ pub struct Parameters {
     pub t: usize,
 }
 
+// An opened code or plane: its parameters, and where its matrix starts and ends in the lent description.
 pub enum Opened {
-    Open(Parameters),
+    Open {
+        parameters: Parameters,
+        start: usize,
+        end: usize,
+    },
     Refused(Refusal),
 }
 
 // The refusal of a description that did not open.
 pub fn why_refused(o: Opened) -> Refusal
-    ensures { λ r. ⌜ r ≡ refusalOf o ⌝ }
+    requires { ⌜ ((x : Refusal) × (o ≡ Opened.Refused x)) ⌝ }
+    ensures { λ x. ⌜ o ≡ Opened.Refused x ⌝ }
 {
     match o {
         Opened::Refused(x) => x,
-        Opened::Open(_) => Refusal::TooShort,
+        Opened::Open {
+            parameters: _,
+            start: _,
+            end: _,
+        } => Refusal::TooShort,
     }
-}
-
-// A byte as a number to count and compare with.
-pub fn wide(x: u8) -> usize
-    ensures { λ r. ⌜ (r ≡ x) × (r ≤ 255) ⌝ }
-{
-    x as usize
-}
-
-// A byte as a number to pack with others.
-pub fn long(x: u8) -> u64
-    ensures { λ r. ⌜ (r ≡ x) × (r ≤ 255) ⌝ }
-{
-    x as u64
-}
-
-// The largest byte, or 0: a loop with one exit, which runs on many bytes at a time.
-fn largest(s: &[u8]) -> u8
-    ensures { λ r. ⌜ ((b : ℕ) → 0 < b → ltb r b ≡ allBelow b (now (s .entry))) ⌝ }
-{
-    let mut top = 0;
-    let mut i = 0;
-    while i < s.len() {
-        let x = s[i];
-        if top < x {
-            top = x;
-        }
-        i += 1;
-    }
-    top
-}
-
-// Whether each byte is below a bound.
-pub fn all_below(bound: usize, s: &[u8]) -> bool
-    ensures { λ r. ⌜ r ≡ allBelow bound (now (s .entry)) ⌝ }
-{
-    if bound == 0 {
-        return s.len() == 0;
-    }
-    wide(largest(s)) < bound
 }
 
 // The number of patterns with i + 1 risen cells, from that of those with i: one of the n - i other cells rises by one of l
@@ -186,12 +123,12 @@ fn fields(body: &[u8]) -> Parameters
     ensures { λ p. ⌜ codeWith p (drop 6 (now (body .entry))) ≡ codeOf (now (body .entry)) ⌝ }
 {
     Parameters {
-        n: wide(body[0]),
-        r: wide(body[1]),
-        q: wide(body[2]),
-        m: wide(body[3]),
-        l: wide(body[4]),
-        t: wide(body[5]),
+        n: byte_helpers::wide(body[0]),
+        r: byte_helpers::wide(body[1]),
+        q: byte_helpers::wide(body[2]),
+        m: byte_helpers::wide(body[3]),
+        l: byte_helpers::wide(body[4]),
+        t: byte_helpers::wide(body[5]),
     }
 }
 
@@ -203,9 +140,32 @@ pub fn matrix_size(n: usize, r: usize) -> usize
     r * (n - r)
 }
 
-// Open a description. The first refusal in document 01's order is the answer.
+// The last tests of an opening, of the matrix of a code or a plane whose fields are in range.
+pub fn open_matrix(body: &[u8], parameters: Parameters, start: usize, end: usize) -> Opened
+    requires range { ⌜ ((A : List ℕ) → inRange (codeWith parameters A) ≡ true) ⌝ }
+    requires size { ⌜ end ≡ start + parameters .r * (parameters .n - parameters .r) ⌝ }
+    requires within { ⌜ end ≤ length (now body) ⌝ }
+    ensures opened { λ o. ⌜ openedAs (now (body .entry)) o ≡ matrixTested (codeWith parameters (part (now (body .entry)) start end)) ⌝ }
+    ensures placed { λ o. ⌜ Placed (now (body .entry)) start end o ⌝ }
+{
+    let p = parameters;
+    if !byte_helpers::all_below(p.m, &body[start..end]) {
+        return Opened::Refused(Refusal::EntryTooLarge);
+    }
+    if 4096 < pattern_count(p.n, p.l, p.t) {
+        return Opened::Refused(Refusal::TooManyPatterns);
+    }
+    Opened::Open {
+        parameters,
+        start,
+        end,
+    }
+}
+
+// Open a code's description. The first refusal in document 01's order is the answer.
 pub fn open(body: &[u8]) -> Opened
-    ensures { λ r. ⌜ openedAs (now (body .entry)) r ≡ openCode (now (body .entry)) ⌝ }
+    ensures opened { λ o. ⌜ openedAs (now (body .entry)) o ≡ openCode (now (body .entry)) ⌝ }
+    ensures placed { λ o. ⌜ Placed (now (body .entry)) 6 (length (now (body .entry))) o ⌝ }
 {
     if body.len() < 6 {
         return Opened::Refused(Refusal::TooShort);
@@ -214,14 +174,9 @@ pub fn open(body: &[u8]) -> Opened
     if !in_range(p) {
         return Opened::Refused(Refusal::OutOfRange);
     }
-    if body.len() != 6 + matrix_size(p.n, p.r) {
+    let end = 6 + matrix_size(p.n, p.r);
+    if body.len() != end {
         return Opened::Refused(Refusal::WrongLength);
     }
-    if !all_below(p.m, &body[6..]) {
-        return Opened::Refused(Refusal::EntryTooLarge);
-    }
-    if 4096 < pattern_count(p.n, p.l, p.t) {
-        return Opened::Refused(Refusal::TooManyPatterns);
-    }
-    Opened::Open(p)
+    open_matrix(body, p, 6, end)
 }

@@ -19,8 +19,5 @@ matrix-le r w hr hw = mul-le-mul hr hw
 pub byte-product : (x y : ℕ) → x < 256 → y < 256 → x * y ≤ 65025
 byte-product x y hx hy = let a : x ≤ 255 = omega arith in let b : y ≤ 255 = omega arith in mul-le-mul a b
 
-pub level-product : (x y : ℕ) → x ≤ 64 → y ≤ 64 → x * y ≤ 4096
-level-product x y hx hy = mul-le-mul hx hy
-
 pub sum-more : (f : ℕ → ℕ) (j : ℕ) → sumTo (j + 1) f ≡ sumTo j f + f j
 sum-more f j = rw (add-one j)

@@ -13,7 +13,7 @@ use borrow.Author.Tests.{lt-ltb, le-ltb, eq-eqb, ne-eqb}
 use Rattle.definitions.specs.Words.{at, sumTo, upFrom, allZero, EachCell}
 use Rattle.definitions.specs.Codes.{Code, dataCells}
 use Rattle.definitions.specs.Codewords.{syndromeEntry}
-use Rattle.words.proofs.Cells.{at-past, each-at}
+use Rattle.word_laws.proofs.Cells.{at-past, each-at}
 use Rattle.syndrome.specs.Columns.{column, Syndrome}
 
 pub sum-zero : (w : ℕ) (f : ℕ → ℕ) → ((j : ℕ) → j < w → f j ≡ 0) → sumTo w f ≡ 0
@@ -49,7 +49,9 @@ column-past p i c h b g = step (decLt c w)
     step (no l) = simp (le-ltb c w (omega arith), ne-eqb c (w + i) (λ q. omega arith))
 
 -- beyond the r entries the matrix has no row and the word no cell
-pub entry-past : (p : Code) (x : List ℕ) (i : ℕ) → length (p .A) ≡ p .r * dataCells p → length x ≡ p .n → p .r ≤ p .n → 0 < p .M → p .r ≤ i → syndromeEntry p x i ≡ 0
+pub entry-past :
+    (p : Code) (x : List ℕ) (i : ℕ) → length (p .A) ≡ p .r * dataCells p → length x ≡ p .n → p .r ≤ p .n → 0 < p .M → p .r ≤ i
+    → syndromeEntry p x i ≡ 0
 unfolding syndromeEntry
 entry-past p x i la lx rn m h =
     ap (λ (v : ℕ). v % p .M) (ap₂ _+_ (sum-zero w (λ j. at (p .A) (i * w + j) * at x j) row) (at-past x (w + i) (omega arith))) ∙ mod-eq-of-lt m

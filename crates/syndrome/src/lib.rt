@@ -14,13 +14,6 @@ fn product(x: u8, y: u8) -> u32
     (x as u32) * (y as u32)
 }
 
-pub fn times(a: usize, b: usize) -> usize
-    requires { ⌜ (a ≤ 64) × (b ≤ 64) ⌝ }
-    ensures { λ r. ⌜ (r ≡ a * b) × (r ≤ 4096) ⌝ }
-{
-    a * b
-}
-
 // Check cells of a codeword are below this.
 pub fn ceiling(q: usize, m: usize) -> usize
     requires { ⌜ 0 < m ⌝ }
@@ -56,7 +49,7 @@ pub fn syndrome_entry(matrix: &[u8], p: Parameters, word: &[u8], i: usize) -> u8
     let w = n - r;
     let sum = row_sum(matrix, word, i * w, w) as usize;
     let at = w + i;
-    ((sum + opening::wide(word[at])) % m) as u8
+    ((sum + byte_helpers::wide(word[at])) % m) as u8
 }
 
 // The syndrome of a word; its entries from r on are 0.
@@ -85,7 +78,7 @@ pub fn entry(matrix: &[u8], p: Parameters, i: usize, cell: usize) -> usize
     let r = p.r;
     let w = n - r;
     if cell < w {
-        return opening::wide(matrix[i * w + cell]);
+        return byte_helpers::wide(matrix[i * w + cell]);
     }
     if cell == w + i { 1 } else { 0 }
 }

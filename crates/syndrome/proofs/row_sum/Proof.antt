@@ -38,10 +38,23 @@ loop-less : tie.Need-loop-less Inv-loop μ-loop
 loop-less c = search needs
 
 loop-again : tie.Need-loop-again Inv-loop μ-loop
-loop-again c = (search needs, search needs, ap₂ _+_ (c .before .before .before .before .loop .inv .2) (c .product .ensures .0) ∙ sym (sum-more (λ i. at (c .before .before .before .before .before .before .before .args .matrix .now) (c .before .before .before .before .before .before .before .args .base + i) * at (c .before .before .before .before .before .before .before .args .word .now) i) (c .before .before .before .before .loop .j)))
+loop-again c = (
+  search needs,
+  search needs,
+  ap₂ _+_ (c .before .before .before .before .loop .inv .2) (c .product .ensures .0) ∙ sym (sum-more (λ i. at
+      (c .before .before .before .before .before .before .before .args .matrix .now)
+      (c .before .before .before .before .before .before .before .args .base + i) * at
+      (c .before .before .before .before .before .before .before .args .word .now) i) (c .before .before .before .before .loop .j)),
+)
 
 returns : tie.Need-returns Inv-loop μ-loop
-returns c = let e : c .before .loop .j ≡ c .before .before .before .before .args .w = omega arith in (c .before .loop .inv .2 ∙ ap (λ (j : ℕ). sumTo j (λ i. at (c .before .before .before .before .args .matrix .now) (c .before .before .before .before .args .base + i) * at (c .before .before .before .before .args .word .now) i)) e, search needs)
+returns c =
+    let e : c .before .loop .j ≡ c .before .before .before .before .args .w = omega arith in (
+      c .before .loop .inv .2 ∙ ap (λ (j : ℕ). sumTo j (λ i. at
+          (c .before .before .before .before .args .matrix .now) (c .before .before .before .before .args .base + i) * at
+          (c .before .before .before .before .args .word .now) i)) e,
+      search needs,
+    )
 
 pub row-sum-spec : {M : Type 1} → statement M
 row-sum-spec =

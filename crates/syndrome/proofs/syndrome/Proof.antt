@@ -6,13 +6,14 @@ use lib.ListN.{length, length-set}
 use Rattle.definitions.specs.Words.{at}
 use Rattle.definitions.specs.Codewords.{syndromeEntry}
 use Rattle.opening.specs.Opening.{codeWith}
-use Rattle.syndrome.proofs.Stores.{store-more, store-rest, zeros-at}
+use Rattle.word_laws.proofs.Filling.{store-more, store-rest, zeros-at}
 use Rattle.syndrome.proofs.Columns.{all-entries}
 use Rattle.syndrome.proofs.syndrome.Statement.{statement}
 use Rattle.syndrome.proofs.syndrome.Tie as tie
 
 abbrev Inv-loop : tie.InvT-loop
-Inv-loop matrix p word r s₀ i₀ s i = (i ≤ r) × (length s ≡ 12) × ((j : ℕ) → j < i → at s j ≡ syndromeEntry (codeWith p matrix) word j) × ((j : ℕ) → i ≤ j → at s j ≡ 0)
+Inv-loop matrix p word r s₀ i₀ s i =
+    (i ≤ r) × (length s ≡ 12) × ((j : ℕ) → j < i → at s j ≡ syndromeEntry (codeWith p matrix) word j) × ((j : ℕ) → i ≤ j → at s j ≡ 0)
 
 abbrev μ-loop : tie.MeasureT-loop
 μ-loop matrix p word r s₀ i₀ s i = r - i
@@ -33,10 +34,23 @@ loop-less : tie.Need-loop-less Inv-loop μ-loop
 loop-less c = search needs
 
 loop-again : tie.Need-loop-again Inv-loop μ-loop
-loop-again c = (search needs, simp length-set (c .before .before .loop .inv .1), store-more (c .before .before .loop .s) (c .before .before .loop .i) (c .syndrome-entry .result) (omega (arith, c .before .before .loop .inv .1)) (syndromeEntry (codeWith (c .before .before .before .before .before .args .p) (c .before .before .before .before .before .args .matrix .now)) (c .before .before .before .before .before .args .word .now)) (c .before .before .loop .inv .2) (c .syndrome-entry .ensures), store-rest (c .before .before .loop .s) (c .before .before .loop .i) (c .syndrome-entry .result) (omega (arith, c .before .before .loop .inv .1)) (λ j. 0) (c .before .before .loop .inv .3))
+loop-again c =
+    let a = c .before .before .before .before .before .args in
+    let l = c .before .before .loop in
+    let e = c .syndrome-entry in
+    let f = syndromeEntry (codeWith (a .p) (a .matrix .now)) (a .word .now) in (
+      search needs,
+      simp length-set (l .inv .1),
+      store-more (l .s) (l .i) (e .result) (omega (arith, l .inv .1)) f (l .inv .2) (e .ensures),
+      store-rest (l .s) (l .i) (e .result) (omega (arith, l .inv .1)) (λ j. 0) (l .inv .3),
+    )
 
 returns : tie.Need-returns Inv-loop μ-loop
-returns c = all-entries (codeWith (c .before .before .before .before .args .p) (c .before .before .before .before .args .matrix .now)) (c .before .before .before .before .args .word .now) (c .before .loop .s) (c .before .before .before .before .pre .0 .matrix) (c .before .before .before .before .pre .1) (search needs) (search needs) (c .before .loop .i) (search needs) (c .before .loop .inv .2) (c .before .loop .inv .3)
+returns c =
+    all-entries (codeWith (c .before .before .before .before .args .p) (c .before .before .before .before .args .matrix .now))
+    (c .before .before .before .before .args .word .now) (c .before .loop .s) (c .before .before .before .before .pre .0 .matrix)
+    (c .before .before .before .before .pre .1) (search needs) (search needs) (c .before .loop .i) (search needs) (c .before .loop .inv .2)
+    (c .before .loop .inv .3)
 
 pub syndrome-spec : {M : Type 1} → statement M
 syndrome-spec =

@@ -12,10 +12,25 @@ sub-w : tie.Need-sub-w
 sub-w c = search needs
 
 mul-row-sum : tie.Need-mul-row-sum
-mul-row-sum c = omega (arith, row-fits (c .before .before .args .i) (c .before .before .args .p .r) (c .before .before .args .p .n - c .before .before .args .p .r) (search needs), matrix-le (c .before .before .args .p .r) (c .before .before .args .p .n - c .before .before .args .p .r) (search needs) (search needs))
+mul-row-sum c =
+    omega (
+      arith,
+      row-fits (c .before .before .args .i) (c .before .before .args .p .r)
+          (c .before .before .args .p .n - c .before .before .args .p .r) (search needs),
+      matrix-le (c .before .before .args .p .r)
+          (c .before .before .args .p .n - c .before .before .args .p .r) (search needs) (search needs),
+    )
 
 row-sum-requires : tie.Need-row-sum-requires
-row-sum-requires c κs = (search needs, search needs, omega (arith, row-fits (c .before .before .args .i) (c .before .before .args .p .r) (c .before .before .args .p .n - c .before .before .args .p .r) (search needs)))
+row-sum-requires c κs = (
+  search needs,
+  search needs,
+  omega (
+    arith,
+    row-fits (c .before .before .args .i) (c .before .before .args .p .r)
+        (c .before .before .args .p .n - c .before .before .args .p .r) (search needs),
+  ),
+)
 
 cast-sum : tie.Need-cast-sum
 cast-sum c = search needs
@@ -36,7 +51,10 @@ rem-result : tie.Need-rem-result
 rem-result c = search needs
 
 cast-result : tie.Need-cast-result
-cast-result c = let h : 0 < c .before .before .before .before .before .args .p .m = omega arith in omega (arith, mod-lt (c .before .before .row-sum .result + c .wide .result) h, c .before .before .before .before .before .pre .0 .m-high, c .before .before .before .before .before .pre .0 .q-high)
+cast-result c =
+    let s = c .before .before .before .before .before in
+    let h : 0 < s .args .p .m = omega arith in
+    omega (arith, mod-lt (c .before .before .row-sum .result + c .wide .result) h, s .pre .0 .m-high, s .pre .0 .q-high)
 
 returns : tie.Need-returns
 unfolding syndromeEntry

@@ -3,9 +3,9 @@ use Prim.Native.Nat.{ℕ}
 use native.Mathlib.Omega.{arith}
 use lib.Dec.{ltb}
 use borrow.Author.Needs.{needs}
-use Rattle.opening.proofs.Below.{below-zero}
-use Rattle.opening.proofs.all_below.Statement.{statement}
-use Rattle.opening.proofs.all_below.Tie as tie
+use Rattle.byte_helpers.proofs.Below.{below-zero}
+use Rattle.byte_helpers.proofs.all_below.Statement.{statement}
+use Rattle.byte_helpers.proofs.all_below.Tie as tie
 
 returns : tie.Need-returns
 returns c = let e = c .if1 .taken in rw e (below-zero (c .before .before .args .s .now))

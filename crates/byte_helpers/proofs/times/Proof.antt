@@ -1,9 +1,9 @@
 use mathlib.Core.Path.{refl}
 use native.Mathlib.Omega.{arith}
-use Rattle.syndrome.proofs.Bounds.{level-product}
+use Rattle.byte_helpers.proofs.Products.{level-product}
 use borrow.Author.Needs.{needs}
-use Rattle.syndrome.proofs.times.Statement.{statement}
-use Rattle.syndrome.proofs.times.Tie as tie
+use Rattle.byte_helpers.proofs.times.Statement.{statement}
+use Rattle.byte_helpers.proofs.times.Tie as tie
 
 mul-result : tie.Need-mul-result
 mul-result c = omega (arith, level-product (c .args .a) (c .args .b) (search needs) (search needs))

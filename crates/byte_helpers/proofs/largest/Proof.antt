@@ -9,9 +9,9 @@ use lib.Seq.{take-all}
 use borrow.Author.Needs.{needs}
 use borrow.Author.Tests.{lt-ltb}
 use Rattle.definitions.specs.Words.{at, allBelow}
-use Rattle.opening.proofs.Below.{below-more, larger-left, larger-right}
-use Rattle.opening.proofs.largest.Statement.{statement}
-use Rattle.opening.proofs.largest.Tie as tie
+use Rattle.byte_helpers.proofs.Below.{below-more, larger-left, larger-right}
+use Rattle.byte_helpers.proofs.largest.Statement.{statement}
+use Rattle.byte_helpers.proofs.largest.Tie as tie
 
 abbrev Inv-loop : tie.InvT-loop
 Inv-loop s top₀ i₀ top i = (i ≤ length s) × ((b : ℕ) → 0 < b → ltb top b ≡ allBelow b (take i s))

@@ -1,4 +1,4 @@
--- The test of each cell by the largest; the cells from one on.
+-- The test of each cell by the largest.
 use mathlib.Core.Path.{_≡_, refl, ap, _∙_}
 use mathlib.Core.Bool.{Bool, true, false, _&&_}
 use mathlib.Core.List.{List, [], _∷_, _++_}
@@ -51,7 +51,3 @@ larger-right b t x h = step (decLt t b)
 pub below-zero : (s : List ℕ) → eqb (length s) 0 ≡ allBelow 0 s
 below-zero [] = refl
 below-zero (a ∷ s) = simp (le-ltb a 0 (omega arith), ne-eqb (suc (length s)) 0 (λ e. omega arith))
-
--- a slice from k to its end
-pub take-rest : (k : ℕ) (s : List ℕ) → take (length s - k) (drop k s) ≡ drop k s
-take-rest k s = take-all (length s - k) (drop k s) (simp length-drop (omega arith))
