@@ -4,78 +4,55 @@ use mathlib.Core.Bool.{Bool, true, false}
 use mathlib.Core.List.{List, [], _∷_, _++_, append-assoc, append-nil}
 use mathlib.Core.Option.{Option, none, some, Option·some-ne-none}
 use Prim.Native.Nat.{ℕ, zero, suc, _+_, _-_, _≤_, _<_}
-use native.Mathlib.Nat.{sub-zero, add-zero, zero-add, sub-eq-zero-of-le}
-use native.Mathlib.Numerals.{add-one, sub-one}
+use native.Mathlib.Nat.{add-zero, zero-add}
 use native.Mathlib.Omega.{arith}
-use lib.ListN.{length, length-append}
-use Rattle.definitions.specs.Words.{upFrom}
+use lib.ListN.{length, length-append, replicate}
 use Rattle.definitions.specs.Codes.{Code}
-use Rattle.definitions.specs.Patterns.{prefixed, prefixedByEach, ofWeight}
-use Rattle.search.specs.declared.Risen.{Risen}
+use Rattle.word_laws.proofs.PatternSplits as splits
+use Rattle.candidate_patterns.specs.declared.Risen.{Risen}
+use Rattle.candidate_patterns.specs.Candidates.{magnitudeOf, magnitudeAt, wordOf, added, Chosen}
+use Rattle.candidate_patterns.proofs.Choices.{of-here, of-other, added-at, word-more, word-same}
 use Rattle.search.specs.declared.Sought.{Sought}
 use Rattle.search.specs.declared.Sought.the-variants.{Hit, Miss}
-use Rattle.search.specs.Search.{magnitudeOf, magnitudeAt, wordOf, added, Chosen, continuing, cellsFrom, magnitudesFrom, seek, pickSought, soughtAs}
-use Rattle.search.proofs.Choices.{of-here, of-other, added-at, word-more, word-same}
+use Rattle.search.specs.Search.{cellsFrom, magnitudesFrom, seek, pickSought, soughtAs}
 
-continuing-append : (pre : List ℕ) (xs ys : List (List ℕ)) → continuing pre (xs ++ ys) ≡ continuing pre xs ++ continuing pre ys
-continuing-append pre [] ys = refl
-continuing-append pre (x ∷ xs) ys = ap (λ (l : List (List ℕ)). (pre ++ x) ∷ l) (continuing-append pre xs ys)
+-- the words begun are the state of the split: a magnitude more is a cell more
+abbrev more : List ℕ → ℕ → List ℕ
+more w v = w ++ (v ∷ [])
 
-continuing-prefixed : (pre : List ℕ) (v : ℕ) (es : List (List ℕ)) → continuing pre (prefixed v es) ≡ continuing (pre ++ (v ∷ [])) es
-continuing-prefixed pre v [] = refl
-continuing-prefixed pre v (e ∷ es) = ap₂ {C = List (List ℕ)} (λ a l. a ∷ l) (sym (append-assoc pre (v ∷ []) e)) (continuing-prefixed pre v es)
+abbrev ended : List ℕ → List ℕ → List ℕ
+ended w e = w ++ e
+
+step : (w : List ℕ) (v : ℕ) (e : List ℕ) → ended w (v ∷ e) ≡ ended (more w v) e
+step w v e = sym (append-assoc w (v ∷ []) e)
 
 -- the step of a cell
 module _ (p : Code) (k : Risen) (left cell : ℕ) where
   pub cell-none : 1 ≤ left → p .n ≤ cell → cellsFrom p k left cell ≡ []
   unfolding cellsFrom
-  cell-none one h = by left one
-    where
-      d : p .n - cell ≡ 0
-      d = sub-eq-zero-of-le h
+  cell-none one h = splits.no-cell more ended step (p .l) (p .n) (wordOf cell k) left cell one h
 
-      by : (left : ℕ) → 1 ≤ left → continuing (wordOf cell k) (ofWeight (upFrom 1 (p .l)) left (p .n - cell)) ≡ []
-      by zero h = absurd (omega arith)
-      by (suc left) h = rw d
-
-  pub cell-more : 1 ≤ left → cell < p .n → magnitudeAt k cell ≡ 0 → cellsFrom p k left cell ≡ magnitudesFrom p k left cell 0 ++ cellsFrom p k left (cell + 1)
+  pub cell-more :
+      1 ≤ left → cell < p .n → magnitudeAt k cell ≡ 0 → cellsFrom p k left cell ≡ magnitudesFrom p k left cell 0 ++ cellsFrom p k left (cell + 1)
   unfolding cellsFrom magnitudesFrom
-  cell-more one h z = by left one
-    where
-      d : p .n - cell ≡ suc (p .n - (cell + 1))
-      d = omega arith
-
-      m : List ℕ
-      m = upFrom 1 (p .l)
-
-      by :
-          (left : ℕ) → 1 ≤ left
-          → continuing (wordOf cell k) (ofWeight m left (p .n - cell))
-          ≡ continuing (wordOf cell k) (prefixedByEach (upFrom (0 + 1) (p .l - 0)) (ofWeight m (left - 1) (p .n - (cell + 1)))) ++ continuing (wordOf (cell + 1) k) (ofWeight m left (p .n - (cell + 1)))
-      by zero h = absurd (omega arith)
-      by (suc left) h =
-          rw (d, sub-one, sub-zero, word-more cell k 0 z)
-          (continuing-append (wordOf cell k) (prefixedByEach m (ofWeight m left (p .n - (cell + 1)))) (prefixed 0 (ofWeight m (suc left) (p .n - (cell + 1))))
-          ∙ ap (λ (l : List (List ℕ)). continuing (wordOf cell k) (prefixedByEach m (ofWeight m left (p .n - (cell + 1)))) ++ l) (continuing-prefixed (wordOf cell k) 0 (ofWeight m (suc left) (p .n - (cell + 1)))))
+  cell-more one h z = rw (word-more cell k 0 z) (splits.at-cell more ended step (p .l) (p .n) (wordOf cell k) left cell one h)
 
 -- the step of a magnitude
 module _ (p : Code) (k : Risen) (left cell mag : ℕ) where
   pub mag-none : p .l ≤ mag → magnitudesFrom p k left cell mag ≡ []
   unfolding magnitudesFrom
-  mag-none h = let d : p .l - mag ≡ 0 = sub-eq-zero-of-le h in rw d
+  mag-none h = splits.no-magnitude more ended step (p .l) (p .n) (wordOf cell k) left cell mag h
 
-  pub mag-more : mag < p .l → Chosen k left cell → 1 ≤ left → magnitudesFrom p k left cell mag ≡ cellsFrom p (added k cell (mag + 1)) (left - 1) (cell + 1) ++ magnitudesFrom p k left cell (mag + 1)
+  pub mag-more :
+      mag < p .l → Chosen k left cell → 1 ≤ left
+      → magnitudesFrom p k left cell mag ≡ cellsFrom p (added k cell (mag + 1)) (left - 1) (cell + 1) ++ magnitudesFrom p k left cell (mag + 1)
   unfolding cellsFrom magnitudesFrom
   mag-more h s one =
-      rw (d, ← add-one (mag + 1), word-more cell (added k cell (mag + 1)) (mag + 1) here, word-same cell (added k cell (mag + 1)) k below)
-      (continuing-append (wordOf cell k) (prefixed (mag + 1) es) (prefixedByEach (upFrom (mag + 1 + 1) (p .l - (mag + 1))) es)
-      ∙ ap (λ (l : List (List ℕ)). l ++ continuing (wordOf cell k) (prefixedByEach (upFrom (mag + 1 + 1) (p .l - (mag + 1))) es)) (continuing-prefixed (wordOf cell k) (mag + 1) es))
+      rw (word-more cell k′ (mag + 1) here, word-same cell k′ k below)
+      (splits.at-magnitude more ended step (p .l) (p .n) (wordOf cell k) left cell mag h)
     where
-      d : p .l - mag ≡ suc (p .l - (mag + 1))
-      d = omega arith
-
-      es : List (List ℕ)
-      es = ofWeight (upFrom 1 (p .l)) (left - 1) (p .n - (cell + 1))
+      k′ : Risen
+      k′ = added k cell (mag + 1)
 
       z : magnitudeAt k cell ≡ 0
       z = s .before cell (omega arith)
@@ -90,16 +67,19 @@ module _ (p : Code) (k : Risen) (left cell mag : ℕ) where
       below i h = plus i ∙ ap (λ (v : ℕ). magnitudeAt k i + v) (of-other cell (mag + 1) i (λ q. omega arith)) ∙ add-zero (magnitudeAt k i)
 
 -- no choice left: the one pattern
-pub all-chosen : (p : Code) (k : Risen) (cell : ℕ) → cell ≤ p .n → ((i : ℕ) → cell ≤ i → magnitudeAt k i ≡ 0) → cellsFrom p k 0 cell ≡ wordOf (p .n) k ∷ []
+word-zeros : (k : Risen) (d cell : ℕ) → ((i : ℕ) → cell ≤ i → magnitudeAt k i ≡ 0) → wordOf cell k ++ replicate d 0 ≡ wordOf (cell + d) k
+word-zeros k zero cell z = append-nil (wordOf cell k) ∙ ap (λ (c : ℕ). wordOf c k) (sym (add-zero cell))
+word-zeros k (suc d) cell z =
+    step (wordOf cell k) 0 (replicate d 0) ∙ ap (λ (w : List ℕ). w ++ replicate d 0) (sym (word-more cell k 0 (z cell (omega arith))))
+    ∙ word-zeros k d (cell + 1) (λ i h. z i (omega arith)) ∙ ap (λ (c : ℕ). wordOf c k) (let q : cell + 1 + d ≡ cell + suc d = omega arith in q)
+
+pub all-chosen :
+    (p : Code) (k : Risen) (left cell : ℕ) → left ≡ 0 → cell ≤ p .n → ((i : ℕ) → cell ≤ i → magnitudeAt k i ≡ 0)
+    → cellsFrom p k left cell ≡ wordOf (p .n) k ∷ []
 unfolding cellsFrom
-all-chosen p k cell h z = by (p .n - cell) cell refl h z
-  where
-    by : (d cell : ℕ) → p .n - cell ≡ d → cell ≤ p .n → ((i : ℕ) → cell ≤ i → magnitudeAt k i ≡ 0) → continuing (wordOf cell k) (ofWeight (upFrom 1 (p .l)) 0 d) ≡ wordOf (p .n) k ∷ []
-    by zero cell e h z = let q : cell ≡ p .n = omega arith in ap (λ (x : List ℕ). x ∷ []) (append-nil (wordOf cell k) ∙ ap (λ (c : ℕ). wordOf c k) q)
-    by (suc d) cell e h z =
-        continuing-prefixed (wordOf cell k) 0 (ofWeight (upFrom 1 (p .l)) 0 d)
-        ∙ ap (λ (x : List ℕ). continuing x (ofWeight (upFrom 1 (p .l)) 0 d)) (sym (word-more cell k 0 (z cell (omega arith))))
-        ∙ by d (cell + 1) (omega arith) (omega arith) (λ i g. z i (omega arith))
+all-chosen p k left cell e h z =
+    splits.all-chosen more ended step (p .l) (p .n) (wordOf cell k) left cell e
+    ∙ ap (λ (x : List ℕ). x ∷ []) (word-zeros k (p .n - cell) cell z ∙ ap (λ (c : ℕ). wordOf c k) (let q : cell + (p .n - cell) ≡ p .n = omega arith in q))
 
 -- the first that passes, over a list in two parts
 module _ (f : List ℕ → Bool) where
@@ -107,7 +87,9 @@ module _ (f : List ℕ → Bool) where
   continued (none, t) g = g t
   continued (some e, t) g = (some e, t)
 
-  continued-pick : (b : Bool) (e : List ℕ) (t : ℕ) (r : Option (List ℕ) × ℕ) (g : ℕ → Option (List ℕ) × ℕ) → pickSought f b e t (continued r g) ≡ continued (pickSought f b e t r) g
+  continued-pick :
+      (b : Bool) (e : List ℕ) (t : ℕ) (r : Option (List ℕ) × ℕ) (g : ℕ → Option (List ℕ) × ℕ)
+      → pickSought f b e t (continued r g) ≡ continued (pickSought f b e t r) g
   unfolding continued
   continued-pick true e t r g = refl
   continued-pick false e t r g = refl
@@ -127,13 +109,16 @@ module _ (f : List ℕ → Bool) where
   seek-none n t es e = rw e
 
   module _ (n : ℕ) (zs xs ys : List (List ℕ)) (t : ℕ) (z : zs ≡ xs ++ ys) (r : Sought) (e : soughtAs n r ≡ seek f xs t) where
-    pub seek-hit : (k : Risen) (u : ℕ) → r ≡ Hit k u → soughtAs n (Hit k u) ≡ seek f zs t
+    both : seek f zs t ≡ continued (soughtAs n r) (seek f ys)
+    both = ap (λ (l : List (List ℕ)). seek f l t) z ∙ seek-append xs ys t ∙ ap (λ (o : Option (List ℕ) × ℕ). continued o (seek f ys)) (sym e)
+
+    pub seek-hit : (k : Risen) (u : ℕ) → r ≡ Hit k u → soughtAs n r ≡ seek f zs t
     unfolding continued
-    seek-hit k u q = sym (ap (λ (l : List (List ℕ)). seek f l t) z ∙ seek-append xs ys t ∙ ap (λ (o : Option (List ℕ) × ℕ). continued o (seek f ys)) (sym e ∙ ap (soughtAs n) q))
+    seek-hit k u q = sym (both ∙ ap (λ (x : Sought). continued (soughtAs n x) (seek f ys)) q ∙ sym (ap (soughtAs n) q))
 
     pub seek-skip : (u : ℕ) → r ≡ Miss u → seek f zs t ≡ seek f ys u
     unfolding continued
-    seek-skip u q = ap (λ (l : List (List ℕ)). seek f l t) z ∙ seek-append xs ys t ∙ ap (λ (o : Option (List ℕ) × ℕ). continued o (seek f ys)) (sym e ∙ ap (soughtAs n) q)
+    seek-skip u q = both ∙ ap (λ (x : Sought). continued (soughtAs n x) (seek f ys)) q
 
   -- one pattern before the others
   module _ (zs ys : List (List ℕ)) (x : List ℕ) (t : ℕ) (z : zs ≡ (x ∷ []) ++ ys) where
@@ -146,7 +131,9 @@ module _ (f : List ℕ → Bool) where
     one-miss h = rw (z, h)
 
   -- how many are tried
-  count-step : (b : Bool) (e : List ℕ) (t n u : ℕ) (r : Option (List ℕ) × ℕ) → (r ≡ (none, u) → u ≡ t + 1 + n) → pickSought f b e (t + 1) r ≡ (none, u) → u ≡ t + suc n
+  count-step :
+      (b : Bool) (e : List ℕ) (t n u : ℕ) (r : Option (List ℕ) × ℕ)
+      → (r ≡ (none, u) → u ≡ t + 1 + n) → pickSought f b e (t + 1) r ≡ (none, u) → u ≡ t + suc n
   count-step true e t n u r h q = absurd (Option·some-ne-none e (ap (λ (o : Option (List ℕ) × ℕ). o .0) q))
   count-step false e t n u r h q = let w = h q in omega arith
 
@@ -156,7 +143,9 @@ module _ (f : List ℕ → Bool) where
   all-tried (x ∷ xs) t u e = count-step (f x) x t (length xs) u (seek f xs (t + 1)) (all-tried xs (t + 1) u) e
 
   -- room for the whole is room for the second part after the first
-  pub room-next : (n : ℕ) (zs xs ys : List (List ℕ)) (t u b : ℕ) (r : Sought) → zs ≡ xs ++ ys → t + length zs ≤ b → soughtAs n r ≡ seek f xs t → r ≡ Miss u → u + length ys ≤ b
+  pub room-next :
+      (n : ℕ) (zs xs ys : List (List ℕ)) (t u b : ℕ) (r : Sought)
+      → zs ≡ xs ++ ys → t + length zs ≤ b → soughtAs n r ≡ seek f xs t → r ≡ Miss u → u + length ys ≤ b
   room-next n zs xs ys t u b r z h e q =
       let l : length zs ≡ length xs + length ys = ap length z ∙ length-append xs ys in
       let c : u ≡ t + length xs = all-tried xs t u (sym e ∙ ap (soughtAs n) q) in

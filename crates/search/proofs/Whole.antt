@@ -1,7 +1,7 @@
 -- The list of all patterns: its parts by weight, its length, and the first of it that passes a test.
 use mathlib.Core.Path.{_≡_, refl, sym, ap, ap₂, _∙_, subst}
 use mathlib.Core.Bool.{Bool, true, false}
-use mathlib.Core.List.{List, [], _∷_, _++_, List·Memᴰ, List·Memᴰ·head, List·Memᴰ·tail}
+use mathlib.Core.List.{List, [], _∷_, _++_, map-id, List·Memᴰ, List·Memᴰ·head, List·Memᴰ·tail}
 use mathlib.Core.Option.{Option, none, some, Option·none-ne-some}
 use Prim.Native.Nat.{ℕ, zero, suc, _+_, _-_, _≤_, _<_}
 use native.Mathlib.Nat.{sub-zero}
@@ -11,15 +11,16 @@ use native.Mathlib.Omega.{arith}
 use lib.ListN.{length, length-append}
 use Rattle.definitions.specs.Words.{upFrom, weight}
 use Rattle.definitions.specs.Codes.{Code}
-use Rattle.definitions.specs.Patterns.{ofWeight, patterns, patternsOf, patternCount}
+use Rattle.definitions.specs.Patterns.{ofWeight, patterns, magnitudes, patternsOf, patternCount}
 use Rattle.definitions.specs.Decoding.{first, pickFirst}
-use Rattle.words.proofs.PatternList.{ofWeight-shape}
-use Rattle.code.proofs.Acceptance.{magnitude-pos, patterns-number}
-use Rattle.search.specs.declared.Risen.{Risen}
+use Rattle.word_laws.proofs.PatternList.{ofWeight-shape}
+use Rattle.code_theorems.proofs.Acceptance.{magnitude-pos, patterns-number}
+use Rattle.candidate_patterns.specs.declared.Risen.{Risen}
+use Rattle.candidate_patterns.specs.Candidates.{wordOf, unrisen}
 use Rattle.search.specs.declared.Sought.the-variants.{Hit}
 use Rattle.search.specs.declared.Found.the-variants.{Pattern, Nothing}
-use Rattle.search.specs.Search.{wordOf, unrisen, continuing, cellsFrom, seek, pickSought, soughtAs, foundWord, CountsOf}
-use Rattle.search.proofs.Choices.{unrisen-at}
+use Rattle.search.specs.Search.{cellsFrom, seek, pickSought, soughtAs, foundWord, CountsOf}
+use Rattle.candidate_patterns.proofs.Choices.{unrisen-at}
 use Rattle.search.proofs.Order.{continued-some, seek-append, continued, all-chosen}
 
 -- what is found is in the list
@@ -37,18 +38,14 @@ found-weight : (l w n : ℕ) (f : List ℕ → Bool) (t : ℕ) (e : List ℕ) (u
 found-weight l w n f t e u q = ofWeight-shape (upFrom 1 l) (magnitude-pos l) w n e (found-member f (ofWeight (upFrom 1 l) w n) t e u q) .2
 
 -- the search from the first cell is the patterns of a weight
-continuing-none : (es : List (List ℕ)) → continuing [] es ≡ es
-continuing-none [] = refl
-continuing-none (e ∷ es) = ap (λ (l : List (List ℕ)). e ∷ l) (continuing-none es)
-
 module _ (p : Code) where
-  pub from-first : (w : ℕ) → cellsFrom p unrisen w 0 ≡ ofWeight (upFrom 1 (p .l)) w (p .n)
+  pub from-first : (w : ℕ) → cellsFrom p unrisen w 0 ≡ ofWeight (magnitudes p) w (p .n)
   unfolding cellsFrom wordOf
-  from-first w = continuing-none (ofWeight (upFrom 1 (p .l)) w (p .n - 0)) ∙ ap (ofWeight (upFrom 1 (p .l)) w) (sub-zero (p .n))
+  from-first w = map-id (ofWeight (magnitudes p) w (p .n - 0)) ∙ ap (ofWeight (magnitudes p) w) (sub-zero (p .n))
 
   -- the patterns with at most w risen cells
   abbrev pub upTo : ℕ → List (List ℕ)
-  upTo w = patterns (upFrom 1 (p .l)) w (p .n)
+  upTo w = patterns (magnitudes p) w (p .n)
 
   -- the part of weight w comes after those of less
   split : (w : ℕ) → 1 ≤ w → upTo w ≡ upTo (w - 1) ++ cellsFrom p unrisen w 0
@@ -60,14 +57,15 @@ module _ (p : Code) where
   grown w (suc t) h b g = step (decLt w (suc t)) (λ (l : length (upTo t) ≤ b) (k : w ≤ t). grown w t k b l)
     where
       step : Dec (w < suc t) → (length (upTo t) ≤ b → w ≤ t → length (upTo w) ≤ b) → length (upTo w) ≤ b
-      step (yes l) ih = ih (let q = length-append (upTo t) (ofWeight (upFrom 1 (p .l)) (suc t) (p .n)) in omega arith) (omega arith)
+      step (yes l) ih = ih (let q = length-append (upTo t) (ofWeight (magnitudes p) (suc t) (p .n)) in omega arith) (omega arith)
       step (no l) ih = let e : w ≡ suc t = omega arith in rw e g
 
   pub room-all : (w tried : ℕ) → 1 ≤ w → w ≤ p .t → tried ≡ length (upTo (w - 1)) → patternCount p ≤ 4096 → tried + length (cellsFrom p unrisen w 0) ≤ 4096
   unfolding patternsOf
   room-all w tried one h e b =
       let g : length (upTo w) ≤ 4096 = grown w (p .t) h 4096 (let c = patterns-number p in omega arith) in
-      let s : length (upTo w) ≡ length (upTo (w - 1)) + length (cellsFrom p unrisen w 0) = ap length (split w one) ∙ length-append (upTo (w - 1)) (cellsFrom p unrisen w 0) in
+      let s : length (upTo w) ≡ length (upTo (w - 1)) + length (cellsFrom p unrisen w 0) =
+      ap length (split w one) ∙ length-append (upTo (w - 1)) (cellsFrom p unrisen w 0) in
       omega arith
 
   module _ (f : List ℕ → Bool) where
@@ -76,13 +74,15 @@ module _ (p : Code) where
     none-tried h = ap (λ (l : List (List ℕ)). seek f l 0) one ∙ (rw h)
       where
         one : upTo 0 ≡ wordOf (p .n) unrisen ∷ []
-        one = sym (from-first 0) ∙ all-chosen p unrisen 0 (omega arith) (λ i _. unrisen-at i)
+        one = sym (from-first 0) ∙ all-chosen p unrisen 0 0 refl (omega arith) (λ i _. unrisen-at i)
 
     pub unrisen-passes : f (wordOf (p .n) unrisen) ≡ true → seek f (upTo 0) 0 ≡ (some (wordOf (p .n) unrisen), 1)
     unfolding seek
-    unrisen-passes h = ap (λ (l : List (List ℕ)). seek f l 0) (sym (from-first 0) ∙ all-chosen p unrisen 0 (omega arith) (λ i _. unrisen-at i)) ∙ (rw h)
+    unrisen-passes h = ap (λ (l : List (List ℕ)). seek f l 0) (sym (from-first 0) ∙ all-chosen p unrisen 0 0 refl (omega arith) (λ i _. unrisen-at i)) ∙ (rw h)
 
-    pub weight-done : (w tried : ℕ) → 1 ≤ w → seek f (upTo (w - 1)) 0 ≡ (none, tried) → (o : Option (List ℕ) × ℕ) → o ≡ seek f (cellsFrom p unrisen w 0) tried → seek f (upTo w) 0 ≡ o
+    pub weight-done :
+        (w tried : ℕ) → 1 ≤ w → seek f (upTo (w - 1)) 0 ≡ (none, tried)
+        → (o : Option (List ℕ) × ℕ) → o ≡ seek f (cellsFrom p unrisen w 0) tried → seek f (upTo w) 0 ≡ o
     unfolding continued
     weight-done w tried one e o q =
         ap (λ (l : List (List ℕ)). seek f l 0) (split w one) ∙ seek-append f (upTo (w - 1)) (cellsFrom p unrisen w 0) 0
@@ -94,10 +94,12 @@ module _ (p : Code) where
     found-early w (suc t) e u h q = step (decLt w (suc t)) (λ (k : w ≤ t). found-early w t e u k q)
       where
         grow : seek f (upTo t) 0 ≡ (some e, u) → seek f (upTo (suc t)) 0 ≡ (some e, u)
-        grow r = seek-append f (upTo t) (ofWeight (upFrom 1 (p .l)) (suc t) (p .n)) 0 ∙ ap (λ (x : Option (List ℕ) × ℕ). continued f x (seek f (ofWeight (upFrom 1 (p .l)) (suc t) (p .n)))) r ∙ kept
+        grow r =
+            seek-append f (upTo t) (ofWeight (magnitudes p) (suc t) (p .n)) 0
+            ∙ ap (λ (x : Option (List ℕ) × ℕ). continued f x (seek f (ofWeight (magnitudes p) (suc t) (p .n)))) r ∙ kept
           where
-            kept : continued f (some e, u) (seek f (ofWeight (upFrom 1 (p .l)) (suc t) (p .n))) ≡ (some e, u)
-            kept = continued-some f e u (seek f (ofWeight (upFrom 1 (p .l)) (suc t) (p .n)))
+            kept : continued f (some e, u) (seek f (ofWeight (magnitudes p) (suc t) (p .n))) ≡ (some e, u)
+            kept = continued-some f e u (seek f (ofWeight (magnitudes p) (suc t) (p .n)))
 
         step : Dec (w < suc t) → (w ≤ t → seek f (upTo t) 0 ≡ (some e, u)) → seek f (upTo (suc t)) 0 ≡ (some e, u)
         step (yes l) ih = grow (ih (omega arith))
@@ -119,7 +121,9 @@ module _ (f : List ℕ → Bool) where
   seek-place [] t e u q = absurd (Option·none-ne-some e (ap (λ (o : Option (List ℕ) × ℕ). o .0) q))
   seek-place (x ∷ es) t e u q = step (f x) q (λ (r : seek f es (t + 1) ≡ (some e, u)). seek-place es (t + 1) e u r)
     where
-      step : (b : Bool) → pickSought f b x (t + 1) (seek f es (t + 1)) ≡ (some e, u) → (seek f es (t + 1) ≡ (some e, u) → (t + 1 < u) × (u ≤ t + 1 + length es)) → (t < u) × (u ≤ t + suc (length es))
+      step :
+          (b : Bool) → pickSought f b x (t + 1) (seek f es (t + 1)) ≡ (some e, u)
+          → (seek f es (t + 1) ≡ (some e, u) → (t + 1 < u) × (u ≤ t + 1 + length es)) → (t < u) × (u ≤ t + suc (length es))
       step true r ih = let z : t + 1 ≡ u = ap (λ (o : Option (List ℕ) × ℕ). o .1) r in (omega arith, omega arith)
       step false r ih = let (a, b) = ih r in (omega arith, omega arith)
 

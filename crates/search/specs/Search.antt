@@ -1,101 +1,55 @@
--- The search for the first error pattern: what the choices made so far are as a word, what they leave of a syndrome,
--- and the patterns that are still to be tried.
+-- The search for the first error pattern: the choices so far, and the patterns that are still to be tried.
 use mathlib.Core.Path.{_≡_}
-use mathlib.Core.Bool.{Bool, true, false, cond}
+use mathlib.Core.Bool.{Bool, true, false}
 use mathlib.Core.List.{List, [], _∷_, _++_, map}
 use mathlib.Core.Option.{Option, none, some}
-use Prim.Native.Nat.{ℕ, zero, suc, _+_, _*_, _-_, _%_, _<_, _≤_}
-use lib.Dec.{eqb, ltb}
-use lib.ListN.{length}
-use Rattle.definitions.specs.Words.{at, upFrom, weight, EachCell}
+use Prim.Native.Nat.{ℕ, _+_, _-_, _<_, _≤_}
+use Rattle.definitions.specs.Words.{upFrom, weight}
 use Rattle.definitions.specs.Codes.{Code}
-use Rattle.definitions.specs.Codewords.{syndromeEntry}
-use Rattle.definitions.specs.Patterns.{ofWeight, prefixedByEach, patternCount}
-use Rattle.definitions.specs.Decoding.{fits, sameSyndrome}
-use Rattle.opening.specs.declared.Parameters.{Parameters}
-use Rattle.opening.specs.Opening.{Ready}
-use Rattle.syndrome.specs.Columns.{column}
-use Rattle.search.specs.declared.Risen.{Risen}
+use Rattle.definitions.specs.Patterns.{ofWeight, prefixedByEach, patterns, magnitudes, patternsOf, patternCount}
+use Rattle.definitions.specs.Decoding.{first}
+use Rattle.opening.specs.Opening.{codeWith}
+use Rattle.candidate_patterns.specs.declared.Risen.{Risen}
+use Rattle.candidate_patterns.specs.declared.Asked.{Asked}
+use Rattle.candidate_patterns.specs.Candidates.{wordOf, unrisen, added, testOf, testFor, Chosen, Remains}
+use Rattle.search.specs.declared.Choices.{Choices}
 use Rattle.search.specs.declared.Sought.{Sought}
 use Rattle.search.specs.declared.Sought.the-variants.{Hit, Miss}
 use Rattle.search.specs.declared.Found.{Found}
 use Rattle.search.specs.declared.Found.the-variants.{Pattern, Nothing}
 
--- the magnitude g at cell c, 0 at every other
-abbrev pub magnitudeOf : ℕ → ℕ → ℕ → ℕ
-magnitudeOf c g i = cond (eqb c i) g 0
+-- no choice made, and w left
+abbrev pub begun : ℕ → ℕ → Choices
+begun w tried = record { risen = unrisen; left = w; cell = 0; tried = tried }
 
-abbrev pub orElse : ℕ → ℕ → ℕ
-orElse zero b = b
-orElse (suc a) b = suc a
+-- the next choice is of a cell from c on
+abbrev pub atCell : Choices → ℕ → ℕ → Choices
+atCell k c tried = record { risen = k .risen; left = k .left; cell = c; tried = tried }
 
--- the magnitude of cell i: a choice that is not made has the magnitude 0
-unfoldable pub magnitudeAt : Risen → ℕ → ℕ
-magnitudeAt k i =
-    orElse (magnitudeOf (k .c1) (k .m1) i) (orElse (magnitudeOf (k .c2) (k .m2) i) (magnitudeOf (k .c3) (k .m3) i))
+-- one choice more: the cell, with the magnitude g
+abbrev pub withMagnitude : Choices → ℕ → ℕ → Choices
+withMagnitude k g tried = record { risen = added (k .risen) (k .cell) g; left = k .left - 1; cell = k .cell + 1; tried = tried }
 
--- the choices as a word of n cells
-unfoldable pub wordOf : ℕ → Risen → List ℕ
-wordOf n k = map (magnitudeAt k) (upFrom 0 n)
-
--- no choice made: the empty pattern
-abbrev pub unrisen : Risen
-unrisen = record { c1 = 0; m1 = 0; c2 = 0; m2 = 0; c3 = 0; m3 = 0 }
-
--- one choice more, before the others
-abbrev pub added : Risen → ℕ → ℕ → Risen
-added k c g = record { c1 = c; m1 = g; c2 = k .c1; m2 = k .m1; c3 = k .c2; m3 = k .m2 }
-
--- y is a received word of an opened code
-pub record Received (p : Parameters) (A y : List ℕ) : Type 0 where
-  pub ready : Ready p A
-  pub long : length y ≡ p .n
-  pub levels : EachCell (λ v. v < p .q) y
-
--- the choices so far are of cells before `cell`, and `left` more can be made
-pub record Chosen (k : Risen) (left cell : ℕ) : Type 0 where
-  pub few : left ≤ 3
-  pub free3 : 0 < left → k .m3 ≡ 0
-  pub free2 : 1 < left → k .m2 ≡ 0
-  pub free1 : 2 < left → k .m1 ≡ 0
-  pub before : (i : ℕ) → cell ≤ i → magnitudeAt k i ≡ 0
-
--- what the choices k leave of y's syndrome
-pub record Remains (p : Code) (y : List ℕ) (k : Risen) (rest : List ℕ) : Type 0 where
-  pub below : (i : ℕ) → at rest i < p .M
-  pub sum : (i : ℕ) → (at rest i + syndromeEntry p (wordOf (p .n) k) i) % p .M ≡ syndromeEntry p y i
-
--- the difference a - e modulo M
-abbrev pub lessModulo : ℕ → ℕ → ℕ → ℕ
-lessModulo M a e = cond (ltb a e) (a + M - e) (a - e)
-
--- the first eight of a column's entries, each below 256, as one number: columns whose keys differ, differ
-abbrev pub keyOf : (ℕ → ℕ) → ℕ
-keyOf f = f 0 + 256 * (f 1 + 256 * (f 2 + 256 * (f 3 + 256 * (f 4 + 256 * (f 5 + 256 * (f 6 + 256 * f 7))))))
-
--- the keys of the columns of a code whose one magnitude is 1
-pub record Keyed (p : Code) (keys : List ℕ) : Type 0 where
-  pub single : p .l ≡ 1
-  pub each : (c : ℕ) → c < p .n → at keys c ≡ keyOf (λ i. column p i c)
-
--- what a pattern is tested for: that it leaves a codeword, or its syndrome alone
-abbrev pub testOf : Bool → Code → List ℕ → List ℕ → Bool
-testOf true p y = fits p y
-testOf false p y = sameSyndrome p y
-
--- each word of a list with `pre` in front
-abbrev pub continuing : List ℕ → List (List ℕ) → List (List ℕ)
-continuing pre [] = []
-continuing pre (e ∷ es) = (pre ++ e) ∷ continuing pre es
+-- the choices k are of cells before the next, and leave rest of the syndrome
+pub record Reached (a : Asked) (A : List ℕ) (k : Choices) (rest : List ℕ) : Type 0 where
+  pub chosen : Chosen (k .risen) (k .left) (k .cell)
+  pub cells : k .cell ≤ a .p .n
+  pub remains : Remains (codeWith (a .p) A) (a .s) (k .risen) rest
 
 -- the patterns with the choices k and `left` more of cells from `cell` on
 unfoldable pub cellsFrom : Code → Risen → ℕ → ℕ → List (List ℕ)
-cellsFrom p k left cell = continuing (wordOf cell k) (ofWeight (upFrom 1 (p .l)) left (p .n - cell))
+cellsFrom p k left cell = map (λ e. wordOf cell k ++ e) (ofWeight (magnitudes p) left (p .n - cell))
 
 -- those that choose `cell` next, with a magnitude above `mag`
 unfoldable pub magnitudesFrom : Code → Risen → ℕ → ℕ → ℕ → List (List ℕ)
 magnitudesFrom p k left cell mag =
-    continuing (wordOf cell k) (prefixedByEach (upFrom (mag + 1) (p .l - mag)) (ofWeight (upFrom 1 (p .l)) (left - 1) (p .n - (cell + 1))))
+    map (λ e. wordOf cell k ++ e) (prefixedByEach (upFrom (mag + 1) (p .l - mag)) (ofWeight (magnitudes p) (left - 1) (p .n - (cell + 1))))
+
+abbrev pub cellsLeft : Asked → List ℕ → Choices → List (List ℕ)
+cellsLeft a A k = cellsFrom (codeWith (a .p) A) (k .risen) (k .left) (k .cell)
+
+abbrev pub magnitudesLeft : Asked → List ℕ → Choices → List (List ℕ)
+magnitudesLeft a A k = magnitudesFrom (codeWith (a .p) A) (k .risen) (k .left) (k .cell) 0
 
 module _ (f : List ℕ → Bool) where
   abbrev pub pickSought : Bool → List ℕ → ℕ → Option (List ℕ) × ℕ → Option (List ℕ) × ℕ
@@ -107,14 +61,21 @@ module _ (f : List ℕ → Bool) where
   seek [] t = (none, t)
   seek (e ∷ es) t = let rest = seek es (t + 1) in pickSought (f e) e (t + 1) rest
 
+-- the first pattern in document 01's order that passes the test
+abbrev pub firstPattern : Bool → Code → List ℕ → List ℕ → Option (List ℕ)
+firstPattern b p s y = first (testOf b p s y) (patternsOf p)
+
+abbrev pub firstFor : Asked → List ℕ → List ℕ → Option (List ℕ)
+firstFor a A y = firstPattern (a .codeword) (codeWith (a .p) A) (a .s) y
+
+-- none with at most one risen cell passes, and t is their number
+abbrev pub NoneWithOne : Asked → List ℕ → List ℕ → ℕ → Type 0
+NoneWithOne a A y t = seek (testFor a A y) (patterns (magnitudes (codeWith (a .p) A)) 1 (a .p .n)) 0 ≡ (none, t)
+
 -- a search's answer as a word of n cells, and how many were tried
 abbrev pub soughtAs : ℕ → Sought → Option (List ℕ) × ℕ
 soughtAs n (Hit k t) = (some (wordOf n k), t)
 soughtAs n (Miss t) = (none, t)
-
-abbrev pub triedBy : Sought → ℕ
-triedBy (Hit k t) = t
-triedBy (Miss t) = t
 
 -- the pattern found, as a word of n cells
 abbrev pub foundWord : ℕ → Found → Option (List ℕ)
