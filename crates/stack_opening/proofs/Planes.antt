@@ -1,104 +1,148 @@
--- Opening a plane, test by test, and what it shows.
-use mathlib.Core.Path.{_≡_, refl, sym, ap, _∙_, subst}
-use mathlib.Core.Bool.{true, false, not}
-use mathlib.Core.List.{List}
-use Prim.Native.Nat.{ℕ, _+_, _*_, _-_, _≤_, _<_}
-use native.Mathlib.Nat.{add-zero}
+-- The planes of an opened stack, one after another: those before plane j, and those from it on.
+use mathlib.Core.Path.{_≡_, refl, sym, ap, _∙_}
+use mathlib.Core.List.{List, [], _∷_, _++_, map}
+use Prim.Native.Nat.{ℕ, zero, suc, _+_, _*_, _-_, _≤_, _<_}
+use native.Mathlib.Nat.{mul-assoc, le-trans, le-mul-of-pos-right}
+use native.Mathlib.Numerals.{add-one}
 use native.Mathlib.Omega.{arith}
-use lib.Dec.{T, ltb, leb→le}
-use lib.ListN.{length, take, drop, length-drop}
-use lib.Seq.{length-take-le, getD-drop, drop-drop}
-use borrow.Author.Tests.{lt-ltb, le-ltb}
-use Rattle.definitions.specs.Words.{at, allBelow}
-use Rattle.definitions.specs.Answers.{Answer, given, refused, refuse_when_else_}
+use lib.ListN.{length, take, drop, drop-of-length-le}
+use lib.Seq.{take-suc, drop-cons, getD-take, length-take-le}
 use Rattle.definitions.specs.Codes.{Code, dataCells}
-use Rattle.definitions.specs.Patterns.{patternCount}
-use Rattle.definitions.specs.StackOperations.{planeOf, planeInRange, openPlane}
-use Rattle.definitions.proofs.Tests.{and-left, and-right, below-each}
-use Rattle.opening.specs.Opening.{codeWith, refusalNumber}
-use Rattle.opening.specs.declared.Refusal.{Refusal}
-use Rattle.opening.proofs.Ready.{from4}
-use Rattle.stack_opening.specs.StackOpening.{planeParameters, planeRefusalOf, planeIn, planeOpenedAs, PlaneAt, Placed}
+use Rattle.definitions.specs.Stacks.{product}
+use Rattle.definitions.specs.StackMessages.{messageLength}
+use Rattle.stack_theorems.proofs.Opened.{IsPlane, ArePlanes}
+use Rattle.stack_opening.specs.StackOpening.{noPlane, planeNo, planeIn, planesIn, PlaneReady, PlanesReady}
 use Rattle.stack_opening.specs.declared.Plane.{Plane}
-use Rattle.stack_opening.specs.declared.PlaneOpened.{PlaneOpened}
-use Rattle.stack_opening.specs.declared.PlaneOpened.the-variants.{Open, Refused}
 
--- whether k bytes are left from a place on
-module _ (b : List ℕ) (place k : ℕ) where
-  pub too-few : length b - place < k → ltb (length (drop place b)) k ≡ true
-  too-few h = lt-ltb (length (drop place b)) k (rw length-drop h)
+-- one plane more
+pub product-snoc : (ps : List Code) (p : Code) → product (ps ++ (p ∷ [])) ≡ product ps * p .M
+product-snoc [] p = omega arith
+product-snoc (q ∷ ps) p = ap (λ (k : ℕ). q .M * k) (product-snoc ps p) ∙ sym (mul-assoc (q .M) (product ps) (p .M))
 
-  pub enough : k ≤ length b - place → ltb (length (drop place b)) k ≡ false
-  enough h = le-ltb (length (drop place b)) k (rw length-drop h)
+pub length-snoc : (ps : List Code) (p : Code) → messageLength (ps ++ (p ∷ [])) ≡ messageLength ps + dataCells p
+length-snoc [] p = omega arith
+length-snoc (q ∷ ps) p = omega (arith, length-snoc ps p)
 
--- document 01's ranges of a plane
-pub record PlaneRanges (n c r t : ℕ) : Type 0 where
-  pub c-low : 2 ≤ c
-  pub c-high : c ≤ 64
-  pub r-high : r ≤ 12
-  pub r-below : r < n
-  pub t-high : t ≤ 3
-  pub t-below : t ≤ n
+-- what does not fall from one number to the next
+rising : (f : ℕ → ℕ) (k : ℕ) → ((i : ℕ) → i < k → f i ≤ f (i + 1)) → (d j : ℕ) → j + d ≡ k → f j ≤ f k
+rising f k up zero j e = let s : j ≡ k = omega arith in rw s (omega arith)
+rising f k up (suc d) j e = le-trans (up j (omega arith)) (rising f k up d (j + 1) (omega arith))
 
-pub plane-ranges : (n c r t : ℕ) → T (planeInRange n c r t) → PlaneRanges n c r t
-plane-ranges n c r t h = search (leb→le, and-left, and-right) depth 10
+module _ (b : List ℕ) (planes : List Plane) where
+  -- the place value of plane j, and the place of its first symbol
+  abbrev pub valueAt : ℕ → ℕ
+  valueAt j = product (planesIn b planes j)
 
--- the tests of opening the plane p at the head of the bytes b, from the one for refusal 2 or 3 on; from 4 on they are a code's
-module _ (b : List ℕ) (p : Code) where
-  abbrev pub from3 : Answer Code
-  from3 = refuse 3 when ltb (length b) (3 + p .r * dataCells p) else from4 b p
+  abbrev pub symbolAt : ℕ → ℕ
+  symbolAt j = messageLength (planesIn b planes j)
 
-  abbrev pub from2 : Answer Code
-  from2 = refuse 2 when not (planeInRange (p .n) (p .M) (p .r) (p .t)) else from3
+  -- of the first k planes, those from plane j on
+  abbrev pub planesFrom : ℕ → ℕ → List Code
+  planesFrom k j = map (planeIn b) (drop j (take k planes))
 
-pub opens : (n : ℕ) (b : List ℕ) (p : Code) → ltb (length b) 3 ≡ false → p ≡ planeOf n b → openPlane n b ≡ from2 b p
-unfolding openPlane
-opens n b p h e = rw (e, h)
+  module _ (j : ℕ) (here : j < length planes) where
+    pub before-next : planesIn b planes (j + 1) ≡ planesIn b planes j ++ (planeIn b (planeNo planes j) ∷ [])
+    before-next = rw (add-one, take-suc planes j noPlane here) (map-snoc (take j planes))
+      where
+        map-snoc : (xs : List Plane) → map (planeIn b) (xs ++ (planeNo planes j ∷ [])) ≡ map (planeIn b) xs ++ (planeIn b (planeNo planes j) ∷ [])
+        map-snoc [] = refl
+        map-snoc (x ∷ xs) = ap (λ (ys : List Code). planeIn b x ∷ ys) (map-snoc xs)
 
--- the plane at a place of the description b of a stack of n cells, with the fields c, r and t
-module _ (b : List ℕ) (n place c r t : ℕ) where
-  abbrev pub planeFrom : ℕ → Plane
-  planeFrom size = record { parameters = planeParameters n c r t; matrix = place + 3; next = place + 3 + size }
+    pub value-next : valueAt (j + 1) ≡ valueAt j * planeNo planes j .parameters .m
+    value-next = ap product before-next ∙ product-snoc (planesIn b planes j) (planeIn b (planeNo planes j))
 
-  abbrev pub codeFrom : Code
-  codeFrom = codeWith (planeParameters n c r t) (take (r * (n - r)) (drop (place + 3) b))
+    pub symbol-next : symbolAt (j + 1) ≡ symbolAt j + dataCells (planeIn b (planeNo planes j))
+    symbol-next = ap messageLength before-next ∙ length-snoc (planesIn b planes j) (planeIn b (planeNo planes j))
 
-  pub plane-from : c ≡ at b place → r ≡ at b (place + 1) → t ≡ at b (place + 2) → codeFrom ≡ planeOf n (drop place b)
-  plane-from e f g = simp (getD-drop, drop-drop, add-zero) (cc)
+  module _ (k j : ℕ) where
+    pub from-next : k ≤ length planes → j < k → planesFrom k j ≡ planeIn b (planeNo planes j) ∷ planesFrom k (j + 1)
+    from-next fits h =
+        let l = length-take-le k planes fits in
+        rw add-one
+        (ap (map (planeIn b)) (drop-cons (take k planes) j noPlane (omega arith))
+        ∙ ap (λ (p : Plane). planeIn b p ∷ planesFrom k (suc j)) (getD-take k planes j noPlane h))
 
-  pub plane-at : (size : ℕ) → size ≡ r * (n - r) → 1 ≤ n → n ≤ 64 → PlaneRanges n c r t → place + 3 + size ≤ length b → allBelow c (codeFrom .A) ≡ true → patternCount codeFrom ≤ 4096 → PlaneAt b n place (planeFrom size)
-  plane-at size e low high h fits below few =
-      record {
-        long = refl;
-        matrix-is = refl;
-        next-is = ap (λ (k : ℕ). place + 3 + k) e;
-        next-in = fits;
-        ready =
-            record {
-              n-low = low;
-              n-high = high;
-              r-high = h .r-high;
-              r-below = h .r-below;
-              q-high = h .c-high;
-              m-low = h .c-low;
-              m-high = omega arith;
-              l-low = omega (arith, h .c-low);
-              l-high = omega (arith, h .c-low);
-              t-high = h .t-high;
-              t-below = h .t-below;
-              matrix = length-take-le (r * (n - r)) (drop (place + 3) b) (rw length-drop (omega arith));
-              entries = below-each c (codeFrom .A) (rw below tt);
-              few = few;
-            };
-      }
+    pub from-end : k ≤ length planes → k ≤ j → planesFrom k j ≡ []
+    from-end fits h =
+        let l = length-take-le k planes fits in
+        let g : length (take k planes) ≤ j = omega arith in
+        ap (map (planeIn b)) (drop-of-length-le (take k planes) g)
 
--- an answer o of opening the plane at a place of the description b of a stack of n cells
-module _ (b : List ℕ) (n place : ℕ) (o : PlaneOpened) where
-  pub plane-open : (p : Plane) → o ≡ Open p → planeOpenedAs b o ≡ openPlane n (drop place b) → openPlane n (drop place b) ≡ given (planeIn b p)
-  plane-open p e h = sym h ∙ ap (planeOpenedAs b) e
+-- an opened plane is a plane of the stack
+pub plane-good : {b : List ℕ} {n : ℕ} {before : List Code} (p : Plane) → PlaneReady b n before p → IsPlane n (planeIn b p)
+plane-good p h =
+    let c = h .code in
+    let g = c .matrix .ready in
+    record {
+      long = c .long;
+      whole = c .whole;
+      top = c .top;
+      M-low = g .m-low;
+      M-high = omega (arith, g .m-high, g .q-high);
+      r-high = g .r-high;
+      r-below = g .r-below;
+      t-high = g .t-high;
+      t-below = g .t-below;
+      matrix = g .matrix;
+      entries = g .entries;
+      few = g .few;
+    }
 
-  pub plane-refused : (x y : Refusal) → o ≡ Refused x → y ≡ planeRefusalOf o → planeOpenedAs b o ≡ openPlane n (drop place b) → openPlane n (drop place b) ≡ refused (refusalNumber y)
-  plane-refused x y e f h = sym h ∙ rw (f, e)
+module _ {b : List ℕ} {n : ℕ} {planes : List Plane} {k : ℕ} (fits : k ≤ length planes) (ready : PlanesReady b n planes k) where
+  pub from-good : (d j : ℕ) → j + d ≡ k → ArePlanes n (planesFrom b planes k j)
+  from-good zero j e = let f = from-end b planes k j fits (omega arith) in rw f tt
+  from-good (suc d) j e =
+      let f = from-next b planes k j fits (omega arith) in
+      rw f (plane-good (planeNo planes j) (ready j (omega arith)), from-good d (j + 1) (omega arith))
 
-  pub plane-placed : (p : Plane) → o ≡ Open p → Placed b n place o → PlaneAt b n place p
-  plane-placed p e h = subst (Placed b n place) e h
+  -- place values and symbols do not fall
+  pub value-most : (i j : ℕ) → i ≤ j → j ≤ k → valueAt b planes i ≤ valueAt b planes j
+  value-most i j h g = rising (valueAt b planes) j (λ h l. up h (omega arith)) (j - i) i (omega arith)
+    where
+      up : (h : ℕ) → h < k → valueAt b planes h ≤ valueAt b planes (h + 1)
+      up h l =
+          let g = ready h l .code .matrix .ready .m-low in
+          let e = value-next b planes h (omega arith) in
+          rw e (le-mul-of-pos-right (valueAt b planes h) (omega arith))
+
+  pub symbol-most : (i j : ℕ) → i ≤ j → j ≤ k → symbolAt b planes i ≤ symbolAt b planes j
+  symbol-most i j h g =
+      rising (symbolAt b planes) j (λ h l. omega (arith, symbol-next b planes h (omega arith))) (j - i) i (omega arith)
+
+-- m planes of an array, in a stack of n cells
+module _ {b : List ℕ} {n m : ℕ} {planes : List Plane} (fits : m ≤ length planes) (each : PlanesReady b n planes m) where
+  pub none-left : (j : ℕ) → m ≤ j → planesFrom b planes m j ≡ []
+  none-left j h = from-end b planes m j fits h
+
+  pub left-good : (j : ℕ) → j ≤ m → ArePlanes n (planesFrom b planes m j)
+  left-good j h = from-good fits each (m - j) j (omega arith)
+
+  module _ (j : ℕ) (more : j < m) where
+    abbrev p : Plane
+    p = planeNo planes j
+
+    pub left-next : planesFrom b planes m j ≡ planeIn b p ∷ planesFrom b planes m (j + 1)
+    left-next = from-next b planes m j fits more
+
+    pub good : IsPlane n (planeIn b p)
+    good = plane-good p (each j more)
+
+    -- the next plane's place value
+    pub next-value : p .w * p .parameters .m ≡ valueAt b planes (j + 1)
+    next-value = ap (λ (w : ℕ). w * p .parameters .m) (each j more .value) ∙ sym (value-next b planes j (omega arith))
+
+    pub value-high : p .w * p .parameters .m ≤ valueAt b planes m
+    value-high = omega (arith, next-value, value-most fits each (j + 1) m (omega arith) (omega arith))
+
+    pub value-low : 1 ≤ p .w
+    value-low = omega (arith, value-most fits each 0 j (omega arith) (omega arith), each j more .value)
+
+    -- its symbols, and where the next plane's start
+    pub cells : n - p .parameters .r ≡ dataCells (planeIn b p)
+    cells = omega (arith, each j more .code .long)
+
+    pub next-symbol : p .symbol + (n - p .parameters .r) ≡ symbolAt b planes (j + 1)
+    next-symbol = omega (arith, each j more .first, symbol-next b planes j (omega arith), cells)
+
+    pub symbols-high : p .symbol + (n - p .parameters .r) ≤ symbolAt b planes m
+    symbols-high = omega (arith, next-symbol, symbol-most fits each (j + 1) m (omega arith) (omega arith))

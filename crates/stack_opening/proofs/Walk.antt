@@ -1,122 +1,199 @@
--- Plane after plane: the planes of an opened stack one by one, and what is left of opening them.
-use mathlib.Core.Path.{_≡_, refl, sym, ap, _∙_, subst}
-use mathlib.Core.List.{List, [], _∷_}
+-- Opening plane after plane: the planes opened so far, and what is left of opening.
+use mathlib.Core.Path.{_≡_, refl, sym, ap, ap₂, subst, _∙_}
+use mathlib.Core.Bool.{Bool, true, false, not, cond}
+use mathlib.Core.List.{List, [], _∷_, _++_, map, append-assoc, append-nil}
 use Prim.Native.Nat.{ℕ, suc, _+_, _*_, _^_, _-_, _≤_, _<_}
-use native.Mathlib.Nat.{zero-add, one-mul, mul-one, mul-assoc, add-zero, pow-suc, mul-le-mul, pow-le-pow-right}
+use native.Mathlib.Decide.{decLt}
+use native.Mathlib.Nat.{sub-zero, pow-suc, mul-le-mul, pow-le-pow-right}
 use native.Mathlib.Numerals.{add-one}
 use native.Mathlib.Omega.{arith}
-use lib.Dec.{eqb}
-use lib.ListN.{length, take, drop}
-use lib.Seq.{drop-drop}
-use borrow.Author.Tests.{eq-eqb, ne-eqb}
-use Rattle.definitions.specs.Words.{at}
-use Rattle.definitions.specs.Answers.{Answer, given, refused, refusedAt, after}
-use Rattle.definitions.specs.Codes.{Code}
+use lib.Dec.{eqb, ltb}
+use lib.ListN.{length, drop, set, length-drop, length-set}
+use lib.Seq.{drop-drop, take-set-le, getD-set-same, getD-set-other}
+use borrow.Author.Tests.{eq-eqb, ne-eqb, ltb-true, ltb-false}
+use Rattle.definitions.specs.Answers.{Answer, given, refused, refusedAt, refuse_when_else_, after}
+use Rattle.definitions.specs.Codes.{Code, dataCells}
 use Rattle.definitions.specs.Stacks.{product}
-use Rattle.definitions.specs.StackOperations.{planeOf, openPlane, openPlanes}
-use Rattle.code.proofs.Refusals.{passed, after-given}
-use Rattle.opening.specs.Opening.{refusalNumber}
-use Rattle.opening.specs.declared.Refusal.{Refusal}
-use Rattle.stack_opening.specs.StackOpening.{matrixIn, planeIn, planeOpenedAs, PlaneAt, stackOf, summary}
+use Rattle.definitions.specs.StackMessages.{messageLength}
+use Rattle.definitions.specs.StackOperations.{openPlane, openPlanes}
+use Rattle.answers.specs.Answering.{refusedAs}
+use Rattle.answers.specs.declared.Refusal.{Refusal}
+use Rattle.answers.specs.declared.Refusal.the-variants.{TooManyLevels}
+use Rattle.answers.proofs.Beginning.{after-refused}
+use Rattle.stack_theorems.proofs.Opened.{plane-opened}
+use Rattle.opening.specs.Opening.{codeWith, part}
+use Rattle.opening.specs.declared.Parameters.{Parameters}
+use Rattle.stack_opening.specs.StackOpening.{PlaneCode, noPlane, planeNo, planeIn, planesIn, stackIn, stackAnswered}
+use Rattle.stack_opening.specs.StackOpening.{lastTests, withinLevels, PlaneReady, PlanesReady, AnswerPlaced}
 use Rattle.stack_opening.specs.declared.Plane.{Plane}
-use Rattle.stack_opening.specs.declared.PlaneOpened.{PlaneOpened}
-use Rattle.stack_opening.specs.declared.PlaneOpened.the-variants.{Refused}
 use Rattle.stack_opening.specs.declared.StackParameters.{StackParameters}
-use Rattle.digit_planes.proofs.Opened.{plane-opened}
+use Rattle.stack_opening.specs.declared.StackOpened.{StackOpened}
+use Rattle.stack_opening.specs.declared.StackOpened.the-variants.{Open, Refused}
+use Rattle.stack_opening.proofs.Planes.{product-snoc, length-snoc, valueAt, symbolAt, before-next}
 
--- the bytes after the plane p
-abbrev pub afterPlane : Code → List ℕ → List ℕ
-afterPlane p b = drop (3 + p .r * (p .n - p .r)) b
+-- of m planes, j are opened: the array has them, the next starts at a place of the description b, with a place value and a first symbol
+pub record Walked (b : List ℕ) (n m : ℕ) (planes : List Plane) (place w symbol j : ℕ) : Type 0 where
+  pub within : place ≤ length b
+  pub value : w ≡ valueAt b planes j
+  pub first : symbol ≡ symbolAt b planes j
+  pub each : PlanesReady b n planes j
+  pub left : openPlanes m n (drop 2 b) ≡ after (openPlanes (m - j) n (drop place b)) λ ps. given (planesIn b planes j ++ ps)
 
--- the first plane opens, and the others from where it ends
-pub planes-first : (k n : ℕ) (b : List ℕ) (ps : List Code) → openPlanes (suc k) n b ≡ given ps → (p : Code) × (qs : List Code) × (ps ≡ p ∷ qs) × (openPlane n b ≡ given p) × (openPlanes k n (afterPlane p b) ≡ given qs)
+-- before the first plane
+pub walk-start : (b : List ℕ) (n m : ℕ) (planes : List Plane) → 2 ≤ length b → Walked b n m planes 2 1 0 0
+walk-start b n m planes h =
+    record {
+      within = h;
+      value = refl;
+      first = refl;
+      each = λ j g. absurd (omega arith);
+      left = simp sub-zero (itself (openPlanes m n (drop 2 b)));
+    }
+  where
+    itself : (a : Answer (List Code)) → a ≡ (after a λ ps. given ps)
+    itself (given ps) = refl
+    itself (refused k) = refl
+    itself (refusedAt k j) = refl
+
+-- a plane and those after it, after others
+collected : (qs : List Code) (p : Code) (a : Answer (List Code))
+    → (after (after a λ ps. given (p ∷ ps)) λ ps. given (qs ++ ps)) ≡ (after a λ ps. given ((qs ++ (p ∷ [])) ++ ps))
+collected qs p (given ps) = ap given (sym (append-assoc qs (p ∷ []) ps))
+collected qs p (refused k) = refl
+collected qs p (refusedAt k j) = refl
+
+-- one plane opens, and the others from where it ends
+planes-next : (k n : ℕ) (b : List ℕ) (p : Code) → openPlane n b ≡ given p
+    → openPlanes (suc k) n b ≡ after (openPlanes k n (drop (3 + p .r * dataCells p) b)) λ ps. given (p ∷ ps)
 unfolding openPlanes
-planes-first k n b ps e =
-    let rest = drop (3 + at b 1 * (n - at b 1)) b in
-    let (p, f, g) = after-given (openPlane n b) (λ p. after (openPlanes k n rest) λ qs. given (p ∷ qs)) ps e in
-    let (qs, h, i) = after-given (openPlanes k n rest) (λ qs. given (p ∷ qs)) ps g in
-    let s : ps ≡ p ∷ qs = cc in
-    (p, qs, s, f, subst (λ (c : Code). openPlanes k n (afterPlane c b) ≡ given qs) (plane-opened n b p f .0) h)
+planes-next k n b p e = rw (e, ← plane-opened n b p e .0)
 
--- of m planes, with j opened
-one-more : (m j : ℕ) → j < m → m - j ≡ suc (m - (j + 1))
-one-more m j h = omega arith
-
-no-more : (m j : ℕ) → m ≤ j → m - j ≡ 0
-no-more m j h = omega arith
-
--- after the last plane there is none
-pub planes-end : (m j n : ℕ) (b : List ℕ) (ps : List Code) → m ≤ j → openPlanes (m - j) n b ≡ given ps → ps ≡ []
-unfolding openPlanes
-planes-end m j n b ps h e =
-    let (_, f) = passed 3 (eqb (length b) 0) (given []) ps (rw (no-more m j h) at e) in
-    cc
-
--- with j planes opened before, of levels q together: what is answered when the next ones are opened as a
-abbrev pub walked : ℕ → ℕ → ℕ → Answer (List Code) → Answer StackParameters
-walked n j q a = after a λ ps. given (record { n = n; planes = j + length ps; q = q * product ps })
-
-pub walk-start : (n : ℕ) (a : Answer (List Code)) → summary (stackOf n a) ≡ walked n 0 1 a
-walk-start n (given ps) = rw (zero-add, one-mul)
-walk-start n (refused k) = refl
-walk-start n (refusedAt k i) = refl
-
-module _ (n j q : ℕ) (b : List ℕ) where
-  pub walk-next : (k : ℕ) (p : Code) → openPlane n b ≡ given p → walked n j q (openPlanes (suc k) n b) ≡ walked n (j + 1) (q * p .M) (openPlanes k n (afterPlane p b))
+module _ {b : List ℕ} {n m : ℕ} {planes : List Plane} {place w symbol j : ℕ} (walked : Walked b n m planes place w symbol j) where
+  pub walk-refused : (x : Refusal) → j < m → openPlane n (drop place b) ≡ refusedAs x → openPlanes m n (drop 2 b) ≡ refusedAs x
   unfolding openPlanes
-  walk-next k p e = rw (e, ← plane-opened n b p e .0) (step (planeOf n b) (openPlanes k n (afterPlane (planeOf n b) b)))
+  walk-refused x h e =
+      let d : m - j ≡ suc (m - (j + 1)) = omega arith in
+      walked .left ∙ rw d (after-refused _ x _ (after-refused (openPlane n (drop place b)) x _ e))
+
+  -- the plane that opens next
+  module _ (p : Parameters) (start end : ℕ) (more : j < m) (fits : j < length planes)
+      (opened : openPlane n (drop place b) ≡ given (codeWith p (part b start end)))
+      (start-is : start ≡ place + 3) (end-is : end ≡ start + p .r * (p .n - p .r)) (good : PlaneCode b n p start end) where
+    abbrev pub plane : Plane
+    plane = record { parameters = p; start = start; end = end; w = w; symbol = symbol }
+
+    abbrev pub grown : List Plane
+    grown = set planes j plane
+
+    before : (i : ℕ) → i ≤ j → planesIn b grown i ≡ planesIn b planes i
+    before i h = ap (map (planeIn b)) (take-set-le i planes j plane h)
+
+    here : planeNo grown j ≡ plane
+    here = getD-set-same planes j plane noPlane fits
+
+    long : j < length grown
+    long = rw length-set fits
+
+    each-next : PlanesReady b n grown (j + 1)
+    each-next i h = step (decLt i j)
+      where
+        step : Dec (i < j) → PlaneReady b n (planesIn b grown i) (planeNo grown i)
+        step (yes l) =
+            let e = before i (omega arith) in
+            let f = getD-set-other planes j i plane noPlane (λ q. omega arith) in
+            rw (e, f) (walked .each i l)
+        step (no l) =
+            let q : j ≡ i = omega arith in
+            let e = before j (omega arith) in
+            subst (λ (k : ℕ). PlaneReady b n (planesIn b grown k) (planeNo grown k)) q
+            (rw (e, here) (record { code = good; value = walked .value; first = walked .first }))
+
+    after-next : planesIn b grown (j + 1) ≡ planesIn b planes j ++ (planeIn b plane ∷ [])
+    after-next =
+        before-next b grown j long ∙ ap₂ (λ (ps : List Code) (x : Plane). ps ++ (planeIn b x ∷ [])) (before j (omega arith)) here
+
+    left-next : openPlanes m n (drop 2 b) ≡ after (openPlanes (m - (j + 1)) n (drop end b)) λ ps. given (planesIn b grown (j + 1) ++ ps)
+    left-next =
+        let d : m - j ≡ suc (m - (j + 1)) = omega arith in
+        let e : place + (3 + p .r * (p .n - p .r)) ≡ end = omega arith in
+        let f = planes-next (m - (j + 1)) n (drop place b) (planeIn b plane) opened in
+        let g = drop-drop (3 + p .r * (p .n - p .r)) place b in
+        walked .left
+        ∙ rw (d, f, g, e, after-next) (collected (planesIn b planes j) (planeIn b plane) (openPlanes (m - (j + 1)) n (drop end b)))
+
+    pub walk-next : Walked b n m grown end (w * p .m) (symbol + (n - p .r)) (j + 1)
+    walk-next =
+        record {
+          within = good .matrix .within;
+          value =
+              ap (λ (k : ℕ). k * p .m) (walked .value)
+              ∙ sym (ap product after-next ∙ product-snoc (planesIn b planes j) (planeIn b plane));
+          first =
+              ap₂ (λ (k i : ℕ). k + (i - p .r)) (walked .first) (sym (good .long))
+              ∙ sym (ap messageLength after-next ∙ length-snoc (planesIn b planes j) (planeIn b plane));
+          each = each-next;
+          left = left-next;
+        }
+
+  -- after the last plane: bytes left over, or all planes
+  pub walk-end : j ≡ m → openPlanes m n (drop 2 b) ≡ (refuse 3 when ltb place (length b) else given (planesIn b planes m))
+  unfolding openPlanes
+  walk-end e =
+      let z : m - j ≡ 0 = omega arith in
+      walked .left ∙ rw (z, e) (last (ltb place (length b)) refl)
     where
-      step : (c : Code) (a : Answer (List Code)) → walked n j q (after a λ ps. given (c ∷ ps)) ≡ walked n (j + 1) (q * c .M) a
-      step c (given ps) =
-          let h : j + suc (length ps) ≡ j + 1 + length ps = omega arith in
-          rw (h, mul-assoc)
-      step c (refused i) = refl
-      step c (refusedAt i h) = refl
+      all : planesIn b planes m ++ [] ≡ planesIn b planes m
+      all = append-nil (planesIn b planes m)
 
-  pub walk-refused : (m i : ℕ) → j < m → openPlane n b ≡ refused i → walked n j q (openPlanes (m - j) n b) ≡ refused i
-  unfolding openPlanes
-  walk-refused m i h e = rw (one-more m j h, e)
+      last : (t : Bool) → ltb place (length b) ≡ t
+          → (after (refuse 3 when not (eqb (length (drop place b)) 0) else given []) λ ps. given (planesIn b planes m ++ ps))
+          ≡ (refuse 3 when t else given (planesIn b planes m))
+      last true h =
+          let f : 0 < length (drop place b) = rw length-drop (omega (arith, ltb-true place (length b) h)) in
+          rw (ne-eqb (length (drop place b)) 0 (λ g. omega arith))
+      last false h =
+          let f : length (drop place b) ≡ 0 = rw length-drop (omega (arith, ltb-false place (length b) h)) in
+          rw (eq-eqb (length (drop place b)) 0 f, all)
 
-  pub walk-left : (m : ℕ) → m ≤ j → 0 < length b → walked n j q (openPlanes (m - j) n b) ≡ refused 3
-  unfolding openPlanes
-  walk-left m h k = rw (no-more m j h, ne-eqb (length b) 0 (λ e. omega arith))
+-- what the last tests answer of a stack whose planes are all opened
+module _ {b : List ℕ} {n m : ℕ} {planes : List Plane} {place w symbol j : ℕ} (walked : Walked b n m planes place w symbol j) (all : j ≡ m) where
+  abbrev pub parameters : StackParameters
+  parameters = record { n = n; m = m; q = w; symbols = symbol }
 
-  pub walk-end : (m : ℕ) → m ≤ j → m ≡ j → length b ≡ 0 → walked n j q (openPlanes (m - j) n b) ≡ given (record { n = n; planes = m; q = q })
-  unfolding openPlanes
-  walk-end m h e k = rw (no-more m j h, eq-eqb (length b) 0 k, add-zero, mul-one, e)
+  last-opened : stackAnswered b planes (lastTests (ltb place (length b)) parameters) ≡ withinLevels n (openPlanes m n (drop 2 b))
+  last-opened = let e = walk-end walked all in rw e (step (ltb place (length b)))
+    where
+      bound : (u : Bool)
+          → stackAnswered b planes (cond u (Refused TooManyLevels) (Open parameters)) ≡ (refuse 7 when u else given (stackIn b parameters planes))
+      bound true = refl
+      bound false = refl
 
--- where the planes open, the next one is not refused
-pub never-refused : (b : List ℕ) (n place : ℕ) (o : PlaneOpened) (x : Refusal) (m j : ℕ) (ps : List Code) → o ≡ Refused x → planeOpenedAs b o ≡ openPlane n (drop place b) → j < m → openPlanes (m - j) n (drop place b) ≡ given ps → ⊥
-never-refused b n place o x m j ps e f h g =
-    let (p, _, _, k, _) = planes-first (m - (j + 1)) n (drop place b) ps (rw (one-more m j h) at g) in
-    let i : refused (refusalNumber x) ≡ given p = sym (ap (planeOpenedAs b) e) ∙ f ∙ k in
-    let z : _≡_ {A = ℕ} 0 1 = cc in
-    omega arith
+      step : (t : Bool) → stackAnswered b planes (lastTests t parameters) ≡ withinLevels n (refuse 3 when t else given (planesIn b planes m))
+      step true = refl
+      step false =
+          bound (ltb 64 w)
+          ∙ ap (λ (k : ℕ). refuse 7 when ltb 64 k else given (stackIn b parameters planes)) (walked .value ∙ ap (valueAt b planes) all)
 
--- the plane p that was opened at a place of the description b of a stack of n cells
-module _ (b : List ℕ) (n place : ℕ) (p : Plane) (placed : PlaneAt b n place p) where
-  pub next-bytes : afterPlane (planeIn b p) (drop place b) ≡ drop (p .next) b
-  next-bytes =
-      let e : p .next ≡ place + (3 + p .parameters .r * (p .parameters .n - p .parameters .r)) = omega arith in
-      rw (e, drop-drop)
+  last-placed : 1 ≤ n → n ≤ 64 → m ≤ 6 → (t : Bool) → AnswerPlaced b planes (lastTests t parameters)
+  last-placed low high few true = tt
+  last-placed low high few false = step (ltb 64 w) refl
+    where
+      step : (u : Bool) → ltb 64 w ≡ u → AnswerPlaced b planes (cond u (Refused TooManyLevels) (Open parameters))
+      step true e = tt
+      step false e =
+          record {
+            n-low = low;
+            n-high = high;
+            m-high = few;
+            q-high = ltb-false 64 w e;
+            q-is = walked .value ∙ ap (valueAt b planes) all;
+            symbols-is = walked .first ∙ ap (symbolAt b planes) all;
+            each = subst (PlanesReady b n planes) all (walked .each);
+          }
 
-  -- what a caller lends of the description
-  pub matrix-lent : take (p .next - p .matrix) (drop (p .matrix) b) ≡ matrixIn b p
-  matrix-lent =
-      let e : p .next - p .matrix ≡ p .parameters .r * (p .parameters .n - p .parameters .r) = omega arith in
-      rw e
-
-module _ (b : List ℕ) (n place : ℕ) (p : Plane) (opened : openPlane n (drop place b) ≡ given (planeIn b p)) (placed : PlaneAt b n place p) where
-  -- the planes from there on are p and those from its end on
-  pub planes-next : (m j : ℕ) (ps : List Code) → j < m → openPlanes (m - j) n (drop place b) ≡ given ps → (qs : List Code) × (ps ≡ planeIn b p ∷ qs) × (openPlanes (m - (j + 1)) n (drop (p .next) b) ≡ given qs)
-  planes-next m j ps h e =
-      let (c, qs, s, f, g) = planes-first (m - (j + 1)) n (drop place b) ps (rw (one-more m j h) at e) in
-      let w : c ≡ planeIn b p = cc in
-      (qs, rw (← w) s, rw (← next-bytes b n place p placed, ← w) g)
-
-  pub walk-on : (m j q : ℕ) → j < m → walked n j q (openPlanes (m - j) n (drop place b)) ≡ walked n (j + 1) (q * p .parameters .m) (openPlanes (m - (j + 1)) n (drop (p .next) b))
-  walk-on m j q h =
-      rw (one-more m j h, ← next-bytes b n place p placed) (walk-next n j q (drop place b) (m - (j + 1)) (planeIn b p) opened)
+  pub last-answer : 1 ≤ n → n ≤ 64 → m ≤ 6 → (o : StackOpened) → o ≡ lastTests (ltb place (length b)) parameters
+      → (stackAnswered b planes o ≡ withinLevels n (openPlanes m n (drop 2 b))) × AnswerPlaced b planes o
+  last-answer low high few o e = rw e (last-opened, last-placed low high few (ltb place (length b)))
 
 -- the product of j + 1 numbers of at most 64
 pub levels-grow : (j q c : ℕ) → q ≤ 64 ^ j → c ≤ 64 → q * c ≤ 64 ^ (j + 1)

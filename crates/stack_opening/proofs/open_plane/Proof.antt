@@ -1,21 +1,18 @@
 use mathlib.Core.Path.{_≡_, sym, ap, _∙_}
 use mathlib.Core.List.{List}
 use Prim.Native.Nat.{ℕ, _+_}
-use native.Mathlib.Nat.{add-sub-cancel-left}
 use native.Mathlib.Omega.{arith}
 use lib.ListN.{drop}
 use denote.Ref.{now}
 use borrow.Author.Needs.{needs}
-use borrow.Author.Tests.{not-false, lt-ltb, le-ltb}
-use Rattle.definitions.specs.Words.{allBelow}
-use Rattle.definitions.specs.Answers.{Answer, given}
+use Rattle.definitions.specs.Answers.{Answer}
 use Rattle.definitions.specs.Codes.{Code}
-use Rattle.definitions.specs.Patterns.{patternCount}
 use Rattle.definitions.specs.StackOperations.{openPlane}
+use Rattle.opening.specs.Opening.{codeWith, part, matrixTested}
 use Rattle.opening.specs.declared.Parameters.{Parameters}
-use Rattle.opening.proofs.Ready.{holds, from4, from5}
-use Rattle.stack_opening.specs.StackOpening.{PlaneAt}
-use Rattle.stack_opening.proofs.Planes.{too-few, enough, PlaneRanges, plane-ranges, from2, from3, opens, planeFrom, codeFrom, plane-from, plane-at}
+use Rattle.opening.proofs.Ready.{holds}
+use Rattle.stack_opening.proofs.PlaneOpening.{too-few, enough, PlaneRanges, plane-ranges, in-range, from2}
+use Rattle.stack_opening.proofs.PlaneOpening.{from3, opens, codeFrom, plane-from, matrix-from, placed}
 use Rattle.stack_opening.proofs.open_plane.Statement.{statement}
 use Rattle.stack_opening.proofs.open_plane.Tie as tie
 
@@ -52,7 +49,8 @@ left-2 : (c : tie.After-wide3) → Left from2 c
 left-2 c =
     opens (n-of c) (drop (place c) (bytes c)) (code c)
     (enough (bytes c) (place c) 3 (c .before .before .before .before .before .before .if1 .left))
-    (plane-from (bytes c) (n-of c) (place c) (c-of c) (r-of c) (t-of c) (c .before .before .before .before .wide .ensures .0) (c .before .before .wide2 .ensures .0) (c .wide3 .ensures .0))
+    (plane-from (bytes c) (n-of c) (place c) (c-of c) (r-of c) (t-of c) (c .before .before .before .before .wide .ensures .0)
+    (c .before .before .wide2 .ensures .0) (c .wide3 .ensures .0))
 
 in-ranges : (c : tie.Else2) → PlaneRanges (n-of (c .before .before)) (c-of (c .before .before)) (r-of (c .before .before)) (t-of (c .before .before))
 in-ranges c =
@@ -62,42 +60,25 @@ in-ranges c =
 left-3 : (c : tie.Else2) → Left from3 (c .before .before)
 left-3 c = left-2 (c .before .before) ∙ rw (← c .before .plane-in-range .ensures, c .if2 .left)
 
-left-4 : (c : tie.Else3) → Left from4 (c .before .before .before .before)
+left-4 : (c : tie.Else3) → Left (λ b p. matrixTested p) (c .before .before .before .before)
 left-4 c =
     let w = c .before .before .before .before in
-    left-3 (c .before .before) ∙ rw (← c .before .matrix-size .ensures .0, enough (bytes w) (place w) (3 + c .before .matrix-size .result) (omega arith))
+    let size = c .before .matrix-size in
+    left-3 (c .before .before) ∙ rw (← size .ensures .0, enough (bytes w) (place w) (3 + size .result) (omega arith))
 
-entries-tested : (c : tie.After-all-below) → c .all-below .result ≡ allBelow (c-of (c .before .before .before .before .before .before)) (code (c .before .before .before .before .before .before) .A)
-entries-tested c =
-    rw (add-sub-cancel-left, c .before .before .before .matrix-size .ensures .0) at (c .all-below .ensures)
+-- the fields and the size of the matrix that is tested last
+abbrev fields : tie.After-plane-parameters → tie.After-wide3
+fields c = c .before .before .before .before .before
 
-left-5 : (c : tie.Else4) → Left from5 (c .before .before .before .before .before .before .before)
-left-5 c = left-4 (c .before .before .before) ∙ rw (← entries-tested (c .before), c .if4 .left)
+abbrev size : tie.After-plane-parameters → ℕ
+size c = c .before .before .matrix-size .result
 
-counted : (c : tie.After-pattern-count) → c .pattern-count .result ≡ patternCount (code (c .before .before .before .before .before .before .before .before .before))
-unfolding patternCount
-counted c = rw (c .before .plane-parameters .ensures) at (c .pattern-count .ensures)
-
--- a plane that passes all tests
-abbrev fields : tie.Else5 → tie.After-wide3
-fields c = c .before .before .before .before .before .before .before .before .before .before
-
-opened : (c : tie.Else5) → Left (λ b p. given p) (fields c)
-opened c = left-5 (c .before .before .before) ∙ rw (← counted (c .before), le-ltb 4096 (c .before .pattern-count .result) (omega arith))
-
-placed : (c : tie.Else5) → PlaneAt (bytes (fields c)) (n-of (fields c)) (place (fields c)) (planeFrom (bytes (fields c)) (n-of (fields c)) (place (fields c)) (c-of (fields c)) (r-of (fields c)) (t-of (fields c)) (c .before .before .before .before .before .before .before .matrix-size .result))
-placed c =
-    let size = c .before .before .before .before .before .before .before .matrix-size in
-    plane-at _ _ _ _ _ _ (size .result) (size .ensures .0) (omega arith) (omega arith)
-    (in-ranges (c .before .before .before .before .before .before .before .before)) (omega arith)
-    (sym (entries-tested (c .before .before .before .before)) ∙ not-false _ (c .before .before .before .if4 .left)) (rw (← counted (c .before)) (omega arith))
+sub-if1 : tie.Need-sub-if1
+sub-if1 c = search needs
 
 returns : tie.Need-returns
 unfolding openPlane
 returns c = (rw (too-few _ _ 3 (c .if1 .taken)), tt)
-
-sub-if1 : tie.Need-sub-if1
-sub-if1 c = search needs
 
 shared-slice-read-wide : tie.Need-shared-slice-read-wide
 shared-slice-read-wide c = search needs
@@ -129,8 +110,8 @@ plane-in-range-requires c κs = search needs
 returns-2 : tie.Need-returns-2
 returns-2 c = (sym (left-2 (c .before .before) ∙ rw (← c .before .plane-in-range .ensures, c .if2 .taken)), tt)
 
-add-matrix : tie.Need-add-matrix
-add-matrix c = search needs
+add-start : tie.Need-add-start
+add-start c = search needs
 
 matrix-size-requires : tie.Need-matrix-size-requires
 matrix-size-requires c κs = let g = in-ranges c in omega arith
@@ -140,42 +121,40 @@ sub-if3 c = search needs
 
 returns-3 : tie.Need-returns-3
 returns-3 c =
-    let w = c .before .before .before .before in (
-      sym (left-3 (c .before .before) ∙ rw (← c .before .matrix-size .ensures .0, too-few (bytes w) (place w) (3 + c .before .matrix-size .result) (omega arith))),
+    let w = c .before .before .before .before in
+    let size = c .before .matrix-size in (
+      sym (left-3 (c .before .before) ∙ rw (← size .ensures .0, too-few (bytes w) (place w) (3 + size .result) (omega arith))),
       tt,
     )
 
-add-next : tie.Need-add-next
-add-next c = search needs
+plane-parameters-requires : tie.Need-plane-parameters-requires
+plane-parameters-requires c κs = let g = in-ranges (c .before .before) in omega arith
 
-sub-all-below : tie.Need-sub-all-below
-sub-all-below c = search needs
+add-open-matrix : tie.Need-add-open-matrix
+add-open-matrix c = search needs
 
-part-all-below-start : tie.Need-part-all-below-start
-part-all-below-start c = search needs
-
-part-all-below-end : tie.Need-part-all-below-end
-part-all-below-end c = search needs
-
-all-below-requires : tie.Need-all-below-requires
-all-below-requires c κs = search needs
+open-matrix-requires : tie.Need-open-matrix-requires
+open-matrix-requires c κs =
+    let w = fields c in
+    let g = in-ranges (c .before .before .before) in
+    rw (c .plane-parameters .ensures) (
+      in-range (n-of w) (c-of w) (r-of w) (t-of w) (omega arith) (omega arith) g,
+      (ap (λ (k : ℕ). place w + 3 + k) (c .before .before .matrix-size .ensures .0), omega arith),
+    )
 
 returns-4 : tie.Need-returns-4
-returns-4 c = (sym (left-4 (c .before .before .before) ∙ rw (← entries-tested (c .before), c .if4 .taken)), tt)
-
-plane-parameters-requires : tie.Need-plane-parameters-requires
-plane-parameters-requires c κs = let g = in-ranges (c .before .before .before .before .before) in omega arith
-
-pattern-count-requires : tie.Need-pattern-count-requires
-pattern-count-requires c κs =
-    let g = in-ranges (c .before .before .before .before .before .before) in
-    omega (arith, ap (λ (p : Parameters). p .l) (c .plane-parameters .ensures))
-
-returns-5 : tie.Need-returns-5
-returns-5 c = (sym (left-5 (c .before .before .before) ∙ rw (← counted (c .before), lt-ltb 4096 (c .before .pattern-count .result) (omega arith))), tt)
-
-returns-6 : tie.Need-returns-6
-returns-6 c = rw (c .before .before .plane-parameters .ensures) (sym (opened c), placed c)
+returns-4 c =
+    let d = c .before in
+    let w = fields d in
+    let e = c .open-matrix .ensures in
+    let is = d .plane-parameters .ensures in
+    let told = e .0 ∙ ap (λ (p : Parameters). matrixTested (codeWith p (part (bytes w) (place w + 3) (place w + 3 + size d)))) is in (
+      told
+          ∙ ap matrixTested (matrix-from (bytes w) (n-of w) (place w) (c-of w) (r-of w) (t-of w) (size d) (d .before .before .matrix-size .ensures .0))
+          ∙ sym (left-4 (d .before)),
+      placed (bytes w) (n-of w) (place w) (c-of w) (r-of w) (t-of w) (place w + 3) _ (in-ranges (d .before .before .before) .c-low) (λ i. place w + 3)
+          (ap (λ (k : ℕ). place w + 3 + k) (d .before .before .matrix-size .ensures .0)) (c .open-matrix .result) told (e .1),
+    )
 
 pub open-plane-spec : {M : Type 1} → statement M
 open-plane-spec =
@@ -193,17 +172,11 @@ open-plane-spec =
     wide-requires-3
     plane-in-range-requires
     returns-2
-    add-matrix
+    add-start
     matrix-size-requires
     sub-if3
     returns-3
-    add-next
-    sub-all-below
-    part-all-below-start
-    part-all-below-end
-    all-below-requires
-    returns-4
     plane-parameters-requires
-    pattern-count-requires
-    returns-5
-    returns-6)
+    add-open-matrix
+    open-matrix-requires
+    returns-4)

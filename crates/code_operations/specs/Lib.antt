@@ -1,0 +1,2 @@
+-- what the clauses of the operations on codes suppose
+pub mod CodeClauses

@@ -1,0 +1,2 @@
+-- what decoding a stack's word supposes and promises
+pub mod StackReading
