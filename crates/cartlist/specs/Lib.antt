@@ -1,0 +1,2 @@
+-- how much of a buffer was read
+pub mod Input

@@ -1,0 +1,2 @@
+-- what the functions that write lines suppose and ensure
+pub mod Lines

@@ -1,0 +1,2 @@
+-- writing text into a buffer
+pub mod Writing
