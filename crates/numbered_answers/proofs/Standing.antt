@@ -1,0 +1,168 @@
+-- What holds of an answer holds of the one that its numbers stand for: the demands ask what is given, and a refusal's number.
+use mathlib.Core.Path.{_≡_, refl, sym, ap, subst, _∙_}
+use mathlib.Core.Logic.{_↔_}
+use mathlib.Core.List.{List}
+use mathlib.Core.Option.{Option, none, some}
+use Prim.Native.Nat.{ℕ, zero, suc, _≤_}
+use native.Mathlib.Omega.{arith}
+use Rattle.definitions.specs.Answers.{Answer, given, refused, refusedAt, Result, number}
+use Rattle.definitions.specs.Codes.{Code}
+use Rattle.definitions.specs.PackingOperations.{Packed, Unpacked}
+use Rattle.definitions.specs.Demands.{Coding, Tested, OneCodeword, Recovered, DistanceDecides, SomeCodeword}
+use Rattle.definitions.specs.Demands.{GivenWithinReach, KeepsMessages}
+use Rattle.answers.specs.Answering.{refusalNumber, refusalPlane, withPlane, refusedAs, testedAs, writtenAs, readAs, outcomeAs, leaves, TriedWithin}
+use Rattle.answers.specs.declared.Refusal.{Refusal}
+use Rattle.answers.specs.declared.TestAnswer.{TestAnswer}
+use Rattle.answers.specs.declared.TestAnswer.the-variants as test
+use Rattle.answers.specs.declared.WriteAnswer.{WriteAnswer}
+use Rattle.answers.specs.declared.WriteAnswer.the-variants as write
+use Rattle.answers.specs.declared.ReadAnswer.{ReadAnswer}
+use Rattle.answers.specs.declared.ReadAnswer.the-variants as read
+use Rattle.answers.specs.declared.Outcome.{Outcome}
+use Rattle.answers.specs.declared.Outcome.the-variants as outcome
+use Rattle.numbered_answers.specs.Numbers.{numberOf, countOf, triedOf, ReadNumbered, answerBy, countBy, TriedBy}
+use Rattle.numbered_answers.specs.declared.Reading.{Reading}
+use Rattle.numbered_answers.proofs.Refused.{positive}
+
+-- two answers of reading that give the same and are refused by the same number
+pub record Alike (a b : Answer ℕ) : Type 0 where
+  pub to : (k : ℕ) → a ≡ given k → b ≡ given k
+  pub from : (k : ℕ) → b ≡ given k → a ≡ given k
+  pub same : number a ≡ number b
+
+alike-refused : (k : ℕ) (j : Option ℕ) → 1 ≤ k → Alike (withPlane k j) (countBy (numberOf (withPlane {A = ℕ} k j)) (countOf (withPlane k j)))
+alike-refused zero j h = absurd (omega arith)
+alike-refused (suc k) none h = record { to = λ i e. e; from = λ i e. e; same = refl }
+alike-refused (suc k) (some j) h = record {
+  to = λ i e. (let z : _≡_ {A = ℕ} 0 1 = cc in absurd (omega arith));
+  from = λ i e. (let z : _≡_ {A = ℕ} 0 1 = cc in absurd (omega arith));
+  same = refl;
+}
+
+pub read-alike : (a : ReadAnswer) → Alike (readAs a) (countBy (numberOf (readAs a)) (countOf (readAs a)))
+read-alike (read.Count count tried) = record { to = λ i e. e; from = λ i e. e; same = refl }
+read-alike (read.Refused x) = alike-refused (refusalNumber x) (refusalPlane x) (positive x)
+
+pub outcome-alike : (a : Outcome) → Alike (outcomeAs a) (countBy (numberOf (outcomeAs a)) (countOf (outcomeAs a)))
+outcome-alike (outcome.Count k) = record { to = λ i e. e; from = λ i e. e; same = refl }
+outcome-alike (outcome.Refused x) = alike-refused (refusalNumber x) (refusalPlane x) (positive x)
+
+-- the patterns tried
+pub tried-stands : (P : ℕ) (a : ReadAnswer) → TriedWithin P a → TriedBy P (numberOf (readAs a)) (triedOf a)
+tried-stands P (read.Count count tried) h = h
+tried-stands P (read.Refused x) h = step (refusalNumber x) (refusalPlane x) (positive x)
+  where
+    step : (k : ℕ) (j : Option ℕ) → 1 ≤ k → TriedBy P (numberOf (withPlane {A = ℕ} k j)) 0
+    step zero j p = absurd (omega arith)
+    step (suc k) none p = refl
+    step (suc k) (some j) p = refl
+
+module _ (K : Coding) (y out : List ℕ) {a b : Answer ℕ} (h : Alike a b) where
+  given-alike : {P : Type 0} → ((k : ℕ) × (a ≡ given k)) ↔ P → ((k : ℕ) × (b ≡ given k)) ↔ P
+  given-alike e = ((λ g. e .0 (g .0, h .from (g .0) (g .1))), (λ p. let g = e .1 p in (g .0, h .to (g .0) (g .1))))
+
+  number-alike : {P : Type 0} {n : ℕ} → P ↔ (number a ≡ some n) → P ↔ (number b ≡ some n)
+  number-alike e = ((λ p. sym (h .same) ∙ e .0 p), (λ q. e .1 (h .same ∙ q)))
+
+  pub decides-alike : DistanceDecides K y a out → DistanceDecides K y b out
+  decides-alike d =
+      record {
+        exactly = given-alike (d .exactly);
+        back = d .back;
+        count = λ c w. h .to _ (d .count c w);
+        one = d .one;
+        other = number-alike (d .other);
+      }
+
+  pub some-alike : SomeCodeword K y a out → SomeCodeword K y b out
+  some-alike d =
+      record { exactly = given-alike (d .exactly); back = λ k e. d .back k (h .from k e); other = number-alike (d .other) }
+
+  pub within-alike : GivenWithinReach K y a out → GivenWithinReach K y b out
+  within-alike d k e = d k (h .from k e)
+
+  pub keeps-alike : KeepsMessages K y a out → KeepsMessages K y b out
+  keeps-alike d =
+      record {
+        kept = λ s m r. (let (e, f, g) = d .kept s m r in (h .to _ e, f, g));
+        still = λ c. (let (e, f) = d .still c in (h .to 0 e, f));
+      }
+
+-- of a test
+pub tested-stands : (P : Type 0) (a : TestAnswer) → Tested P (testedAs a) → Tested P (answerBy (numberOf (testedAs a)))
+tested-stands P test.Accepted h = h
+tested-stands P (test.Refused x) h = step (refusalNumber x) (refusalPlane x) (positive x) h
+  where
+    step : (k : ℕ) (j : Option ℕ) → 1 ≤ k → Tested P (withPlane k j) → Tested P (answerBy (numberOf (withPlane {A = Unit {0}} k j)))
+    step zero j p h = absurd (omega arith)
+    step (suc k) none p h = h
+    step (suc k) (some j) p h =
+        let never : P → ⊥ = (λ q. let e = h .fit .1 q in let z : _≡_ {A = ℕ} 0 1 = cc in omega arith) in
+        let e = h .unfit .1 never in
+        let z : _≡_ {A = ℕ} 0 1 = cc in
+        absurd (omega arith)
+
+-- of writing
+module _ (K : Coding) (x out : List ℕ) (a : Answer (Unit {0})) where
+  stands : a ≡ given tt → answerBy (numberOf a) ≡ given tt
+  stands e = rw e
+
+  pub written-stands : OneCodeword K x a out → OneCodeword K x (answerBy (numberOf a)) out
+  written-stands h = record { written = stands (h .written); codeword = h .codeword; carries = h .carries; only = h .only }
+
+  pub recovered-stands : Recovered K x a out → Recovered K x (answerBy (numberOf a)) out
+  recovered-stands h = record { recovered = stands (h .recovered); isMessage = h .isMessage; again = h .again }
+
+-- the numbers r of an answer that an operation gave
+pub test-by : (P : Type 0) (a : TestAnswer) (r : ℕ) → r ≡ numberOf (testedAs a) → Tested P (testedAs a) → Tested P (answerBy r)
+test-by P a r e h = rw e (tested-stands P a h)
+
+module _ (K : Coding) (x out : List ℕ) (a : Answer (Unit {0})) (r : ℕ) (e : r ≡ numberOf a) where
+  pub write-by : OneCodeword K x a out → OneCodeword K x (answerBy r) out
+  write-by h = rw e (written-stands K x out a h)
+
+  pub recover-by : Recovered K x a out → Recovered K x (answerBy r) out
+  recover-by h = rw e (recovered-stands K x out a h)
+
+-- and of packing
+module _ (p : Code) (x out : List ℕ) (a : Answer (Unit {0})) (r : ℕ) (e : r ≡ numberOf a) where
+  pub pack-by : Packed p x a out → Packed p x (answerBy r) out
+  pack-by h = record {
+    written = (let w = h .written in rw (e, w));
+    long = h .long;
+    back = h .back;
+    clean = h .clean;
+  }
+
+  pub unpack-by : Unpacked p x a out → Unpacked p x (answerBy r) out
+  unpack-by h = record { written = (let w = h .written in rw (e, w)); isMessage = h .isMessage; back = h .back }
+
+module _ (a : Answer ℕ) (r : Reading) (h : ReadNumbered a r) where
+  pub alike-by : Alike a (countBy (numberOf a) (countOf a)) → Alike a (countBy (r .number) (r .count))
+  alike-by k = let n = h .number-is in let c = h .count-is in rw (n, c) k
+
+pub tried-by : (P : ℕ) (a : ReadAnswer) (r : Reading) → ReadNumbered (readAs a) r → r .tried ≡ triedOf a → TriedWithin P a → TriedBy P (r .number) (r .tried)
+tried-by P a r h e w = let n = h .number-is in rw (n, e) (tried-stands P a w)
+
+-- what is not refused was written
+pub given-by : (a : WriteAnswer) (r : ℕ) → r ≡ numberOf (writtenAs a) → answerBy r ≡ given tt → writtenAs a ≡ given tt
+given-by write.Written r e h = refl
+given-by (write.Refused x) r e h =
+    step (refusalNumber x) (refusalPlane x) (positive x) (subst (λ (u : ℕ). answerBy u ≡ given tt) e h)
+  where
+    step : (k : ℕ) (j : Option ℕ) → 1 ≤ k → answerBy (numberOf (withPlane {A = Unit {0}} k j)) ≡ given tt → withPlane {A = Unit {0}} k j ≡ given tt
+    step zero j p h = absurd (omega arith)
+    step (suc k) none p h = h
+    step (suc k) (some j) p h = let z : _≡_ {A = ℕ} 0 1 = cc in absurd (omega arith)
+
+-- and of the definition's result, which it equals
+pub write-result : (a : Answer (Unit {0})) (out : List ℕ) (d : Result (Unit {0})) (r : ℕ) → leaves a out ≡ d → r ≡ numberOf a
+    → (r ≡ numberOf (d .answer)) × (out ≡ d .out)
+write-result a out d r e n = (n ∙ ap (λ (u : Result (Unit {0})). numberOf (u .answer)) e, ap (λ (u : Result (Unit {0})). u .out) e)
+
+pub read-result : (a : Answer ℕ) (out : List ℕ) (d : Result ℕ) (r : Reading) → leaves a out ≡ d → ReadNumbered a r
+    → ReadNumbered (d .answer) r × (out ≡ d .out)
+read-result a out d r e h = (
+  subst (λ (u : Result ℕ). ReadNumbered (u .answer) r) e h,
+  ap (λ (u : Result ℕ). u .out) e,
+)

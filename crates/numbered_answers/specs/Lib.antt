@@ -1,0 +1,2 @@
+-- what the numbers that stand for an answer are
+pub mod Numbers
