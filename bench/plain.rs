@@ -24,7 +24,7 @@ pub fn pattern_count(n: usize, l: usize, t: usize) -> u64 {
 }
 
 impl<'a> Plan<'a> {
-    pub fn open(body: &'a [u8]) -> Result<Plan<'a>, u8> {
+    pub fn open(body: &'a [u8]) -> Result<Plan<'a>, usize> {
         if body.len() < 6 {
             return Err(1);
         }
@@ -102,6 +102,27 @@ impl<'a> Plan<'a> {
         (0..=self.t).any(|w| self.walk(w, 0, &mut pattern, &mut visit)).then_some(pattern)
     }
 
+    /// Whether every pattern with `left` more risen cells from `cell` on has residues not seen before. `residues` are those of the
+    /// cells chosen so far, and 0 beyond the r of them.
+    fn all_new(&self, left: usize, cell: usize, residues: [u8; 12], seen: &mut HashSet<[u8; 12]>) -> bool {
+        if left == 0 {
+            return seen.insert(residues);
+        }
+        for c in cell..self.n {
+            let mut raised = residues;
+            for _ in 0..self.l {
+                for (k, x) in raised[..self.r].iter_mut().enumerate() {
+                    let sum = *x as usize + self.entry(k, c);
+                    *x = if sum < self.m { sum } else { sum - self.m } as u8;
+                }
+                if !self.all_new(left - 1, c + 1, raised, seen) {
+                    return false;
+                }
+            }
+        }
+        true
+    }
+
     fn leaves_codeword(&self, row: &[u8], pattern: &[(usize, usize)]) -> bool {
         let ceiling = self.m * (self.q / self.m);
         let rise = |cell: usize| pattern.iter().find(|&&(c, _)| c == cell).map_or(0, |&(_, g)| g);
@@ -110,23 +131,19 @@ impl<'a> Plan<'a> {
     }
 }
 
-/// 0, or the refusal's number.
-pub fn test(body: &[u8]) -> u8 {
-    let plan = match Plan::open(body) {
-        Ok(plan) => plan,
-        Err(number) => return number,
-    };
-    let mut seen = HashSet::with_capacity(4096);
-    let clash = plan.first(|pattern| {
-        let residues: Vec<u8> =
-            (0..plan.r).map(|k| (pattern.iter().map(|&(c, g)| g * plan.entry(k, c)).sum::<usize>() % plan.m) as u8).collect();
-        !seen.insert(residues)
-    });
-    if clash.is_some() { 6 } else { 0 }
+/// Accepted, or the refusal's number.
+pub fn test(body: &[u8]) -> Result<(), usize> {
+    let plan = Plan::open(body)?;
+    let mut seen: HashSet<[u8; 12]> = HashSet::with_capacity(4096);
+    if (0..=plan.t).all(|w| plan.all_new(w, 0, [0; 12], &mut seen)) {
+        Ok(())
+    } else {
+        Err(6)
+    }
 }
 
 /// The count and the number of patterns tried, or the refusal's number.
-pub fn decode(body: &[u8], row: &[u8], out: &mut [u8]) -> Result<(usize, usize), u8> {
+pub fn decode(body: &[u8], row: &[u8], out: &mut [u8]) -> Result<(usize, usize), usize> {
     let plan = Plan::open(body)?;
     if row.len() != plan.n || out.len() != plan.n {
         return Err(8);
@@ -140,7 +157,7 @@ pub fn decode(body: &[u8], row: &[u8], out: &mut [u8]) -> Result<(usize, usize),
         tried += 1;
         plan.has_residues(pattern, &wanted) && plan.leaves_codeword(row, pattern)
     });
-    let pattern = found.ok_or(11)?;
+    let pattern = found.ok_or(11usize)?;
     out.copy_from_slice(row);
     for &(c, g) in &pattern {
         out[c] -= g as u8;
@@ -149,7 +166,7 @@ pub fn decode(body: &[u8], row: &[u8], out: &mut [u8]) -> Result<(usize, usize),
 }
 
 /// A stack's planes, each as a plan.
-fn open_stack(body: &[u8]) -> Result<Vec<Plan<'_>>, u8> {
+fn open_stack(body: &[u8]) -> Result<Vec<Plan<'_>>, usize> {
     if body.len() < 2 {
         return Err(1);
     }
@@ -190,23 +207,23 @@ fn open_stack(body: &[u8]) -> Result<Vec<Plan<'_>>, u8> {
     Ok(planes)
 }
 
-/// The count of a stack's row, or the refusal's number.
-pub fn decode_stack(body: &[u8], row: &[u8], out: &mut [u8]) -> Result<usize, u8> {
-    let planes = open_stack(body)?;
+/// The count of a stack's row, or the refusal's number, with the plane of 11.
+pub fn decode_stack(body: &[u8], row: &[u8], out: &mut [u8]) -> Result<usize, (usize, usize)> {
+    let planes = open_stack(body).map_err(|number| (number, 0))?;
     let n = body[0] as usize;
     let q: usize = planes.iter().map(|p| p.m).product();
     if row.len() != n || out.len() != n {
-        return Err(8);
+        return Err((8, 0));
     }
     if row.iter().any(|&x| x as usize >= q) {
-        return Err(10);
+        return Err((10, 0));
     }
     let mut levels = row.to_vec();
     let mut w = 1;
-    for plane in &planes {
+    for (j, plane) in planes.iter().enumerate() {
         let digits: Vec<u8> = levels.iter().map(|&x| (x as usize / w % plane.m) as u8).collect();
         let wanted = plane.residues(&digits);
-        let pattern = plane.first(|pattern| plane.has_residues(pattern, &wanted)).ok_or(11)?;
+        let pattern = plane.first(|pattern| plane.has_residues(pattern, &wanted)).ok_or((11, j))?;
         for &(c, g) in &pattern {
             levels[c] = ((levels[c] as usize + q - g * w) % q) as u8;
         }

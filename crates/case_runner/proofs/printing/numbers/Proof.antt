@@ -1,8 +1,8 @@
 use Prim.Native.Nat.{_≤_, _-_}
 use lib.ListN.{length}
 use borrow.Author.Needs.{needs}
-use Rattle.worked_examples.proofs.numbers.Statement.{statement}
-use Rattle.worked_examples.proofs.numbers.Tie as tie
+use Rattle.case_runner.proofs.printing.numbers.Statement.{statement}
+use Rattle.case_runner.proofs.printing.numbers.Tie as tie
 
 abbrev Inv-loop : tie.InvT-loop
 Inv-loop s i₀ i = i ≤ length s

@@ -1,0 +1,128 @@
+//! Small codes and stacks, every word: what is decoded is decided by distance to every codeword.
+
+use crate::case::{Case, Operation};
+use crate::generate::bases;
+use crate::random::Random;
+use crate::second::code::{self, Code};
+use crate::second::distance::{all_words, code_reaches, stack_reaches};
+use crate::second::stack::{self, Stack};
+use crate::second::{cells_that_differ, Decoded, Refused};
+use crate::tester::{fail, Tester};
+
+/// Every set of parameters with at most so many words, once.
+const WORDS_OF_EVERY_CODE: usize = 130;
+/// Larger codes with two check cells or more, so many, with at most so many words.
+const LARGER: usize = 60;
+const WORDS_OF_LARGER: usize = 2500;
+/// Stacks at random, so many, with at most so many words.
+const STACKS: usize = 400;
+const WORDS_OF_STACKS: usize = 600;
+
+pub fn run(tester: &mut Tester, random: &mut Random) {
+    let mut accepted = 0;
+    let small: Vec<[usize; 6]> = parameters(4, 6).into_iter().filter(|fields| words(fields) <= WORDS_OF_EVERY_CODE).collect();
+    let is_large = |fields: &[usize; 6]| fields[1] > 1 && (500..=WORDS_OF_LARGER).contains(&words(fields));
+    let large: Vec<[usize; 6]> = parameters(5, 12).into_iter().filter(is_large).collect();
+    let chosen: Vec<[usize; 6]> = (0..LARGER).map(|_| random.pick(&large)).collect();
+    for fields in small.iter().chain(&chosen) {
+        accepted += usize::from(every_word_of_code(fields, tester, random));
+    }
+    println!("every word of {} codes, {accepted} of them accepted", small.len() + chosen.len());
+    let accepted = (0..STACKS).filter(|_| every_word_of_stack(tester, random)).count();
+    println!("every word of {STACKS} stacks, {accepted} of them accepted");
+}
+
+fn words(fields: &[usize; 6]) -> usize {
+    let [n, _, q, ..] = *fields;
+    q.pow(n as u32)
+}
+
+/// n, r, q, M, l, t: all in range, up to the given n and q.
+fn parameters(most_n: usize, most_q: usize) -> Vec<[usize; 6]> {
+    let mut all = Vec::new();
+    for n in 1..=most_n {
+        for r in 0..n {
+            for q in 2..=most_q {
+                for modulus in 2..=q {
+                    for l in 1..modulus {
+                        all.extend((0..=n.min(3)).map(|t| [n, r, q, modulus, l, t]));
+                    }
+                }
+            }
+        }
+    }
+    all
+}
+
+/// Decode and recover every word; true when the code is accepted.
+fn every_word_of_code(fields: &[usize; 6], tester: &mut Tester, random: &mut Random) -> bool {
+    let [n, r, _, modulus, ..] = *fields;
+    let body = [&fields.map(|field| field as u8)[..], &random.bytes(r * (n - r), modulus)].concat();
+    let Ok(code) = Code::open(&body) else { return false };
+    let accepted = tester.run(&Case::of(Operation::Test, &body)) == "done";
+    let words = all_words(code.n, code.q);
+    let codewords: Vec<&Vec<u8>> = words.iter().filter(|word| code.is_codeword(word)).collect();
+    let messages: usize = (0..code.n).map(|cell| code.symbol_limit(cell)).product();
+    assert!(codewords.len() == messages, "a codeword for each message");
+    for word in &words {
+        let case = Case::with(Operation::Decode, &body, word, code.n);
+        tester.run(&case);
+        let reached = within_reach(&codewords, |codeword| code_reaches(&code, codeword, word));
+        decided_by_distance(&case, accepted, &reached, code::decode(&body, word, code.n));
+        tester.run(&Case::with(Operation::Recover, &body, word, code.n));
+    }
+    accepted
+}
+
+/// Decode and recover every word of a small stack at random; true when it is accepted.
+fn every_word_of_stack(tester: &mut Tester, random: &mut Random) -> bool {
+    let body = small_stack(random);
+    let stack = Stack::open(&body).expect("a sound description");
+    let accepted = tester.run(&Case::of(Operation::TestStack, &body)) == "done";
+    let words = all_words(stack.n, stack.q);
+    let codewords: Vec<&Vec<u8>> = words.iter().filter(|word| stack.is_codeword(word)).collect();
+    for word in &words {
+        let case = Case::with(Operation::DecodeStack, &body, word, stack.n);
+        tester.run(&case);
+        // Of a stack that is not accepted, distance decides nothing: planes do not go back.
+        if accepted {
+            let reached = within_reach(&codewords, |codeword| stack_reaches(&stack, codeword, word));
+            decided_by_distance(&case, accepted, &reached, stack::decode(&body, word, stack.n));
+        }
+        tester.run(&Case::with(Operation::RecoverStack, &body, word, stack.symbols()));
+    }
+    accepted
+}
+
+fn within_reach<'a>(codewords: &[&'a Vec<u8>], reaches: impl Fn(&[u8]) -> bool) -> Vec<&'a [u8]> {
+    codewords.iter().map(|codeword| codeword.as_slice()).filter(|codeword| reaches(codeword)).collect()
+}
+
+fn small_stack(random: &mut Random) -> Vec<u8> {
+    loop {
+        let (n, planes) = (random.between(1, 4), random.between(1, 4));
+        let bases = bases(planes, random);
+        if bases.iter().product::<usize>().pow(n as u32) > WORDS_OF_STACKS {
+            continue;
+        }
+        let mut body = vec![n as u8, planes as u8];
+        for c in bases {
+            let (r, t) = (random.between(0, n - 1), random.between(0, n.min(2)));
+            body.extend([c, r, t].map(|field| field as u8));
+            body.extend(random.bytes(r * (n - r), c));
+        }
+        return body;
+    }
+}
+
+/// A word is given back exactly when a codeword is within reach; it is one of these, of an accepted code the only one,
+/// and the count is the cells in which it differs.
+fn decided_by_distance(case: &Case, accepted: bool, reached: &[&[u8]], answer: Result<Decoded, Refused>) {
+    let right = match &answer {
+        Ok(Decoded { word, count }) => reached.contains(&word.as_slice()) && *count == cells_that_differ(word, &case.second),
+        Err(refused) => refused.number == 11 && reached.is_empty(),
+    };
+    if !right || (accepted && reached.len() > 1) {
+        fail(case, &format!("answer {answer:?}, codewords within reach {reached:?}"));
+    }
+}

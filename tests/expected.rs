@@ -1,0 +1,114 @@
+//! What the crate case_runner must print for the cases on standard input, by the second implementation.
+//! `make expected` writes the stored output of the programs worked_examples and vectors with it.
+
+#[allow(dead_code)] // Parts of it serve other tests alone.
+mod second;
+
+use second::image::{Image, Record};
+use second::{code, labeling, packing, stack, Decoded, Refused};
+
+/// What an output holds before a call.
+const FILL: u8 = 9;
+
+/// A case's fields. The last one is the output's length.
+struct Fields {
+    first: Vec<u8>,
+    second: Vec<u8>,
+    out_length: usize,
+}
+
+fn main() {
+    let text = std::io::read_to_string(std::io::stdin()).expect("text on standard input");
+    for line in text.lines() {
+        let is_case = !line.is_empty() && !line.starts_with('#');
+        println!("{}", if is_case { answer(line) } else { line.to_string() });
+    }
+}
+
+fn numbers<T: std::str::FromStr>(field: &str) -> Vec<T> {
+    field.split_whitespace().map(|word| word.parse().unwrap_or_else(|_| panic!("no number: {word}"))).collect()
+}
+
+fn fields(text: &str) -> Fields {
+    let parts: Vec<&str> = text.split('/').collect();
+    let out_length = if parts.len() > 1 { numbers(parts[parts.len() - 1])[0] } else { 0 };
+    let second = if parts.len() > 2 { numbers(parts[1]) } else { Vec::new() };
+    assert!(parts.len() < 4, "more than three fields: {text}");
+    Fields { first: numbers(parts[0]), second, out_length }
+}
+
+fn answer(line: &str) -> String {
+    let (name, rest) = line.split_once(' ').unwrap_or((line, ""));
+    let Fields { first, second, out_length } = fields(rest);
+    match name {
+        "test" => tested(code::test(&first)),
+        "encode" => written(code::encode(&first, &second, out_length), out_length),
+        "decode" => read(code::decode(&first, &second, out_length), out_length),
+        "recover" => written(code::recover(&first, &second, out_length), out_length),
+        "code_cells" => sized(code::cells(&first)),
+        "test_stack" => tested(stack::test(&first)),
+        "encode_stack" => written(stack::encode(&first, &second, out_length), out_length),
+        "decode_stack" => read(stack::decode(&first, &second, out_length), out_length),
+        "recover_stack" => written(stack::recover(&first, &second, out_length), out_length),
+        "stack_cells" => sized(stack::cells(&first)),
+        "stack_symbols" => sized(stack::symbols(&first)),
+        "make_labels" => written(labeling::make(usize::from(first[0]), out_length), out_length),
+        "to_levels" => written(labeling::to_levels(&first, &second, out_length), out_length),
+        "to_states" => written(labeling::to_states(&first, &second, out_length), out_length),
+        "pack" => written(packing::pack(&first, &second, out_length), out_length),
+        "unpack" => written(packing::unpack(&first, &second, out_length), out_length),
+        "packed_bytes" => sized(packing::packed_bytes(&first)),
+        "check_image" => tested(Image::check(&first).map(|_| ())),
+        "read_row" => recorded(read_row(&first, usize::from(second[0]), out_length), out_length),
+        "row_cells" => sized(Image::check(&first).and_then(|image| image.row_cells(usize::from(second[0])))),
+        _ => panic!("no operation of that name: {line}"),
+    }
+}
+
+fn read_row(image: &[u8], entry: usize, out_length: usize) -> Result<Record, usize> {
+    Image::check(image)?.read_row(entry, out_length)
+}
+
+fn refusal(number: usize) -> String {
+    format!("refused {number}")
+}
+
+/// The answer, and what the output then holds.
+fn with_buffer(answer: String, out: &[u8]) -> String {
+    let numbers: String = out.iter().map(|number| format!(" {number}")).collect();
+    format!("{answer}:{numbers}")
+}
+
+fn untouched(answer: String, out_length: usize) -> String {
+    with_buffer(answer, &vec![FILL; out_length])
+}
+
+fn tested(result: Result<(), usize>) -> String {
+    result.map_or_else(refusal, |()| "accepted".to_string())
+}
+
+fn sized(result: Result<usize, usize>) -> String {
+    result.map_or_else(refusal, |size| format!("size {size}"))
+}
+
+fn written(result: Result<Vec<u8>, usize>, out_length: usize) -> String {
+    match result {
+        Ok(out) => with_buffer("written".to_string(), &out),
+        Err(number) => untouched(refusal(number), out_length),
+    }
+}
+
+fn read(result: Result<Decoded, Refused>, out_length: usize) -> String {
+    match result {
+        Ok(Decoded { word, count }) => with_buffer(format!("count {count}"), &word),
+        Err(Refused { number, plane: Some(plane) }) => untouched(format!("refused {number} plane {plane}"), out_length),
+        Err(Refused { number, plane: None }) => untouched(refusal(number), out_length),
+    }
+}
+
+fn recorded(result: Result<Record, usize>, out_length: usize) -> String {
+    match result {
+        Ok(Record { entry, outcome }) => format!("entry {entry} {}", read(outcome, out_length)),
+        Err(number) => untouched(refusal(number), out_length),
+    }
+}

@@ -1,0 +1,102 @@
+//! What a source says, put to the library and to the second implementation.
+
+use crate::case::{call_library, compare, expect, Answer, Case, Operation};
+
+/// What an output holds before a call.
+const FILL: u8 = 0xA5;
+
+/// One source, and how many of its statements held.
+pub struct Source {
+    name: &'static str,
+    held: usize,
+}
+
+impl Source {
+    pub fn new(name: &'static str) -> Source {
+        Source { name, held: 0 }
+    }
+
+    /// Print the source's line and give its count.
+    pub fn done(self) -> usize {
+        println!("{}: {} held", self.name, self.held);
+        self.held
+    }
+
+    /// A statement that needs no call.
+    pub fn holds(&mut self, statement: &str, true_here: bool) {
+        if !true_here {
+            self.fail(statement);
+        }
+        self.held += 1;
+    }
+
+    fn fail(&self, statement: &str) -> ! {
+        println!("FAILED: {}: {statement}", self.name);
+        std::process::exit(1)
+    }
+
+    /// Call the library. The second implementation must agree.
+    fn call(&mut self, case: &Case) -> (Answer, Vec<u8>) {
+        let mut out = vec![FILL; case.out_length];
+        let (answer, tried) = call_library(case.operation, case.number, &case.first, &case.second, &mut out);
+        let compared = compare(&expect(case), answer, tried, &out, FILL);
+        compared.unwrap_or_else(|difference| self.fail(&format!("{case:?}\n{difference}")));
+        (answer, out)
+    }
+
+    /// The call refuses with this number, or with 0 does not.
+    pub fn answers(&mut self, case: &Case, number: usize) -> Answer {
+        let (answer, _) = self.call(case);
+        self.holds(&format!("{case:?} answers {number}, not {answer:?}"), answer.number == number);
+        answer
+    }
+
+    pub fn accepts(&mut self, body: &[u8]) {
+        self.answers(&Case::of(Operation::Test, body), 0);
+    }
+
+    pub fn rejects(&mut self, body: &[u8], number: usize) {
+        self.answers(&Case::of(Operation::Test, body), number);
+    }
+
+    /// The call is done and leaves this in its output.
+    pub fn gives(&mut self, case: &Case, wanted: &[u8]) -> Answer {
+        let (answer, out) = self.call(case);
+        self.holds(&format!("{case:?} gives {wanted:?}, not {out:?} {answer:?}"), answer.number == 0 && out == wanted);
+        answer
+    }
+
+    /// The word is decoded to that codeword, with that count.
+    pub fn decodes(&mut self, operation: Operation, body: &[u8], word: &[u8], codeword: &[u8], count: usize) {
+        let answer = self.gives(&Case::with(operation, body, word, codeword.len()), codeword);
+        self.holds(&format!("{body:?} reads {word:?} with count {count}"), answer.count == count);
+    }
+
+    /// Messages of 0 and of 1 in every data cell are encoded; every rise up to l of every cell of these codewords is
+    /// decoded.
+    pub fn mends_every_single_rise(&mut self, body: &[u8]) {
+        let (n, r, q, l) = (usize::from(body[0]), usize::from(body[1]), body[2], body[4]);
+        for symbol in [0, 1] {
+            let message = [vec![symbol; n - r], vec![0; r]].concat();
+            let (_, codeword) = self.call(&Case::with(Operation::Encode, body, &message, n));
+            for cell in 0..n {
+                for rise in (1..=l).filter(|rise| codeword[cell] + rise < q) {
+                    let mut word = codeword.clone();
+                    word[cell] += rise;
+                    self.decodes(Operation::Decode, body, &word, &codeword, 1);
+                }
+            }
+        }
+    }
+}
+
+/// The description of a code from the columns of its parity matrix, unit columns last, q = M, t = 1 (document 003).
+pub fn code_of_columns(q: usize, l: usize, columns: &[Vec<u8>]) -> Vec<u8> {
+    let r = columns[0].len();
+    let is_unit = |column: &&Vec<u8>| column.iter().filter(|&&entry| entry == 0).count() == r - 1 && column.contains(&1);
+    let data: Vec<&Vec<u8>> = columns.iter().filter(|column| !is_unit(column)).collect();
+    assert!(data.len() + r == columns.len(), "every unit column once");
+    let fields = [columns.len(), r, q, q, l, 1].map(|field| field as u8);
+    let matrix = (0..r).flat_map(|row| data.iter().map(move |column| column[row]));
+    fields.into_iter().chain(matrix).collect()
+}
