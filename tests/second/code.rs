@@ -104,7 +104,8 @@ impl Code {
         residues
     }
 
-    /// Do the pattern's residues equal the word's?
+    /// Do the pattern's residues equal the word's? Circular reading asks this.
+    #[allow(dead_code)]
     pub fn has_residues(&self, pattern: &Pattern, word: &[u8]) -> bool {
         let residues = self.pattern_residues(pattern);
         (0..self.r).all(|k| residues[k] == self.residue(k, word))

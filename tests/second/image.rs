@@ -101,7 +101,8 @@ impl<'a> Image<'a> {
         Ok(Record { entry: number, outcome })
     }
 
-    /// The bodies of a row entry's plan and of the row; none for a row of a stack.
+    /// The bodies of a row entry's plan and of the row; none for a row of a stack. Circular reading takes them.
+    #[allow(dead_code)]
     pub fn plan_and_row(&self, number: usize) -> Option<(&'a [u8], &'a [u8])> {
         let (row, description) = self.row(number).ok()?;
         (description.kind == PLAN).then(|| (self.body(description), self.body(row)))

@@ -4,6 +4,8 @@
 //! whether it is a codeword. It is slow and plain on purpose. Every operation gives document 01's answer: what is
 //! written to the output, or the refusal's number. Each takes the length of the lent output, since 8 depends on it.
 
+// Only the tool circular_rows reads so.
+#[allow(dead_code)]
 pub mod circular;
 pub mod code;
 pub mod distance;
