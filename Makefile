@@ -44,15 +44,17 @@ evidence: $(LIBRARY) target/bin/cartlist
 	build/sources
 	build/differential target/bin/cartlist
 
-# make languages runs document 01's examples from C, and prints the rows of the sample images from Rust and Pascal.
+# make languages runs document 01's examples from C, and prints the rows of the sample images from C, Rust and Pascal.
 .PHONY: languages
 languages: $(LIBRARY)
 	gcc -std=c99 -Wall -Wextra -Werror -o build/examples bindings/c/examples.c -Ltarget/staticlib -lfingerkerf
 	build/examples
+	gcc -std=c99 -Wall -Wextra -Werror -o build/effort bindings/c/effort.c -Ltarget/staticlib -lfingerkerf
+	tests/rows.sh build/effort samples/EFFORT
 	$(RUST) -o build/rows_rust bindings/rust/rows.rs
-	tests/rows.sh build/rows_rust
+	tests/rows.sh build/rows_rust samples/EXPECTED
 	if command -v fpc > /dev/null; then \
-	    fpc -v0 -Fubindings/pascal -Fltarget/staticlib -FEbuild -obuild/rows_pascal bindings/pascal/rows.pas && tests/rows.sh build/rows_pascal; \
+	    fpc -v0 -Fubindings/pascal -Fltarget/staticlib -FEbuild -obuild/rows_pascal bindings/pascal/rows.pas && tests/rows.sh build/rows_pascal samples/EXPECTED; \
 	else echo "fpc is not installed: the Pascal unit is not tried"; fi
 
 # make bench prints, for each case, our time divided by plain Rust's; and the times of the largest images.

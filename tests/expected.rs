@@ -43,7 +43,7 @@ fn answer(line: &str) -> String {
     match name {
         "test" => tested(code::test(&first)),
         "encode" => written(code::encode(&first, &second, out_length), out_length),
-        "decode" => read(code::decode(&first, &second, out_length), out_length),
+        "decode" => decoded(&first, &second, out_length),
         "recover" => written(code::recover(&first, &second, out_length), out_length),
         "code_cells" => sized(code::cells(&first)),
         "test_stack" => tested(stack::test(&first)),
@@ -103,6 +103,14 @@ fn read(result: Result<Decoded, Refused>, out_length: usize) -> String {
         Ok(Decoded { word, count }) => with_buffer(format!("count {count}"), &word),
         Err(Refused { number, plane: Some(plane) }) => untouched(format!("refused {number} plane {plane}"), out_length),
         Err(Refused { number, plane: None }) => untouched(refusal(number), out_length),
+    }
+}
+
+/// Decoding a word of a code: a count comes with the number of patterns tried.
+fn decoded(body: &[u8], received: &[u8], out_length: usize) -> String {
+    match code::decode(body, received, out_length) {
+        Ok(Decoded { word, count }) => with_buffer(format!("count {count} tried {}", code::tried(body, received, &word)), &word),
+        refused => read(refused, out_length),
     }
 }
 

@@ -1,4 +1,4 @@
-//! The examples of document 01 and of documents 000, 001 and 003: the library against the second implementation and
+//! The examples of documents 01 and 02 and of documents 000, 001 and 003: the library against the second implementation and
 //! against what each paper says. One line for each source, then the total. docs/SOURCES.md lists what is not expressible.
 
 #[path = "../bindings/rust/fingerkerf.rs"]
@@ -18,10 +18,12 @@ mod document001;
 mod document003;
 #[path = "sources/document01.rs"]
 mod document01;
+#[path = "sources/document02.rs"]
+mod document02;
 #[path = "sources/paper.rs"]
 mod paper;
 
 fn main() {
-    let total = document01::run() + document000::run() + document001::run() + document003::run();
+    let total = document01::run() + document02::run() + document000::run() + document001::run() + document003::run();
     println!("{total} statements of the sources held");
 }

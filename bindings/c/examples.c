@@ -15,9 +15,9 @@ static void expect(const char *example, int holds) {
     }
 }
 
-/* A row given back: the count and the levels. */
-static int gives(levels_reading r, size_t count, const uint8_t *out, const uint8_t *levels, size_t n) {
-    return r.number == 0 && r.count == count && r.plane == 0 && memcmp(out, levels, n) == 0;
+/* A row given back: the count, the patterns tried (0 for a stack) and the levels. */
+static int gives(levels_reading r, size_t count, size_t tried, const uint8_t *out, const uint8_t *levels, size_t n) {
+    return r.number == 0 && r.count == count && r.tried == tried && r.plane == 0 && memcmp(out, levels, n) == 0;
 }
 
 /* A refusal with its plane, and an output buffer that is still all 9. */
@@ -51,9 +51,9 @@ static void codes_r(void) {
     const uint8_t c_levels[] = {4, 6, 2, 2, 0}, d[] = {1, 0, 0, 0, 0}, zeros[5] = {0}, beyond[] = {0, 1, 1, 1, 1};
     expect("a", levels_encode(R, sizeof R, message, 5, out, 5) == 0 && memcmp(out, written, 5) == 0);
     expect("a, recovered", levels_recover(R, sizeof R, written, 5, out, 5) == 0 && memcmp(out, message, 5) == 0);
-    expect("b", gives(decode(R, sizeof R, b, 5, out), 2, out, written, 5));
-    expect("c", gives(decode(R, sizeof R, c, 5, out), 2, out, c_levels, 5));
-    expect("d", gives(decode(R, sizeof R, d, 5, out), 1, out, zeros, 5));
+    expect("b", gives(decode(R, sizeof R, b, 5, out), 2, 9, out, written, 5));
+    expect("c", gives(decode(R, sizeof R, c, 5, out), 2, 15, out, c_levels, 5));
+    expect("d", gives(decode(R, sizeof R, d, 5, out), 1, 2, out, zeros, 5));
     expect("d, beyond", refuses(decode(R, sizeof R, beyond, 5, out), 11, 0, out, 5));
 }
 
@@ -62,7 +62,7 @@ static void codes_f(void) {
     const uint8_t message[12] = {0, 1}, zeros[12] = {0}, first[12] = {2};
     const uint8_t written[12] = {0, 1, 0, 0, 0, 0, 0, 0, 0, 0, 4, 4}, last[12] = {0, 0, 0, 0, 0, 0, 0, 0, 0, 0, 0, 3};
     expect("e", levels_encode(F, sizeof F, message, 12, out, 12) == 0 && memcmp(out, written, 12) == 0);
-    expect("f", gives(decode(F, sizeof F, first, 12, out), 1, out, zeros, 12));
+    expect("f", gives(decode(F, sizeof F, first, 12, out), 1, 3, out, zeros, 12));
     expect("f, beyond", refuses(decode(F, sizeof F, last, 12, out), 11, 0, out, 12));
 }
 
@@ -81,8 +81,8 @@ static void stacks(void) {
     uint8_t out[3];
     const uint8_t i[] = {5, 5, 4}, fives[] = {5, 5, 5}, j[] = {0, 1, 7}, sevens[] = {7, 7, 7};
     const uint8_t k[] = {2, 1, 2, 1, 0, 1}, word[] = {0, 1};
-    expect("i", gives(decode_stack(S, sizeof S, i, 3, out), 1, out, fives, 3));
-    expect("j", gives(decode_stack(S, sizeof S, j, 3, out), 2, out, sevens, 3));
+    expect("i", gives(decode_stack(S, sizeof S, i, 3, out), 1, 0, out, fives, 3));
+    expect("j", gives(decode_stack(S, sizeof S, j, 3, out), 2, 0, out, sevens, 3));
     expect("k", refuses(decode_stack(k, sizeof k, word, 2, out), 11, 0, out, 2));
 }
 

@@ -38,8 +38,9 @@
 extern "C" {
 #endif
 
-/* What reading answers. A row given back: number 0, the count of changed cells, the number of patterns tried (1 to P; 0 for a
- * stack), plane 0. A refusal: its number, count 0, tried 0; with a stack's 11 the plane, from 0, that has no pattern. */
+/* What reading answers. A row given back: number 0, the count of changed cells, the patterns tried, plane 0. Tried is the place,
+ * counted from 1, of the given pattern in document 01's order: 1 for a row that was a codeword, at most P; 0 for a stack.
+ * A refusal: its number, count 0, tried 0; with a stack's 11 the plane, from 0, that has no pattern. */
 typedef struct {
     size_t number;
     size_t count;

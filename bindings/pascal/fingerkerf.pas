@@ -10,7 +10,8 @@ unit fingerkerf;
 interface
 
 type
-  { A row given back: number 0, count, tried, plane 0; a refusal: its number, and the plane with a stack's 11. }
+  { A row given back: number 0, count, tried, plane 0; a refusal: its number, and the plane with a stack's 11. tried is the place,
+    counted from 1, of the given pattern in document 01's order; 0 for a stack. }
   TReading = record
     number, count, tried, plane: SizeUInt;
   end;

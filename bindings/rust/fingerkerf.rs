@@ -12,7 +12,7 @@ pub struct Reading {
     pub number: usize,
     /// Cells that were changed.
     pub count: usize,
-    /// Error patterns tried: 1 to P with a count of a code; 0 with a stack or a refusal.
+    /// Error patterns tried: the place, from 1 to P, of the given pattern in document 01's order; 0 with a stack or a refusal.
     pub tried: usize,
     /// The plane, from 0, of a stack's 11; otherwise 0.
     pub plane: usize,
@@ -47,7 +47,7 @@ pub struct Size {
 #[derive(Clone, Copy, Debug, PartialEq, Eq)]
 pub struct Decoded {
     pub count: usize,
-    /// Error patterns tried; 0 for a stack and for a row entry.
+    /// Error patterns tried, up to the given one; 0 for a stack and for a row entry.
     pub tried: usize,
 }
 

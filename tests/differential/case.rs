@@ -53,13 +53,14 @@ impl Case {
     }
 }
 
-/// Every field of every answer of the boundary but `tried`; what an answer does not have is 0.
+/// Every field of every answer of the boundary; what an answer does not have is 0.
 #[derive(Clone, Copy, Debug, Default, PartialEq, Eq)]
 pub struct Answer {
     pub number: usize,
     pub entry: usize,
     pub refusal: usize,
     pub count: usize,
+    pub tried: usize,
     pub plane: usize,
     pub size: usize,
 }
@@ -70,12 +71,10 @@ pub struct Expected {
     pub answer: Answer,
     /// What the output holds after the call; none when it must stay as it was.
     pub out: Option<Vec<u8>>,
-    /// `tried` is from 1 to this, or 0 when this is 0.
-    pub most_tried: usize,
 }
 
-/// Call the library: the answer, and `tried`.
-pub fn call_library(operation: Operation, number: usize, first: &[u8], second: &[u8], out: &mut [u8]) -> (Answer, usize) {
+/// Call the library.
+pub fn call_library(operation: Operation, number: usize, first: &[u8], second: &[u8], out: &mut [u8]) -> Answer {
     use Operation::*;
     match operation {
         Test => plain(fingerkerf::test(first)),
@@ -101,21 +100,22 @@ pub fn call_library(operation: Operation, number: usize, first: &[u8], second: &
     }
 }
 
-fn plain(result: Result<(), usize>) -> (Answer, usize) {
-    (Answer { number: result.err().unwrap_or(0), ..Answer::default() }, 0)
+fn plain(result: Result<(), usize>) -> Answer {
+    Answer { number: result.err().unwrap_or(0), ..Answer::default() }
 }
 
-fn reading(read: fingerkerf::Reading) -> (Answer, usize) {
-    (Answer { number: read.number, count: read.count, plane: read.plane, ..Answer::default() }, read.tried)
+fn reading(read: fingerkerf::Reading) -> Answer {
+    let fingerkerf::Reading { number, count, tried, plane } = read;
+    Answer { number, count, tried, plane, ..Answer::default() }
 }
 
-fn record(read: fingerkerf::Record) -> (Answer, usize) {
+fn record(read: fingerkerf::Record) -> Answer {
     let fingerkerf::Record { number, entry, refusal, count, plane } = read;
-    (Answer { number, entry, refusal, count, plane, size: 0 }, 0)
+    Answer { number, entry, refusal, count, plane, ..Answer::default() }
 }
 
-fn size(read: fingerkerf::Size) -> (Answer, usize) {
-    (Answer { number: read.number, size: read.size, ..Answer::default() }, 0)
+fn size(read: fingerkerf::Size) -> Answer {
+    Answer { number: read.number, size: read.size, ..Answer::default() }
 }
 
 /// Ask the second implementation.
@@ -125,11 +125,11 @@ pub fn expect(case: &Case) -> Expected {
     match operation {
         Test => accepted(code::test(first)),
         Encode => written(code::encode(first, second, *out_length)),
-        Decode => decoded(code::decode(first, second, *out_length), most_tried(first)),
+        Decode => with_tried(decoded(code::decode(first, second, *out_length)), first, second),
         Recover => written(code::recover(first, second, *out_length)),
         TestStack => accepted(stack::test(first)),
         EncodeStack => written(stack::encode(first, second, *out_length)),
-        DecodeStack => decoded(stack::decode(first, second, *out_length), 0),
+        DecodeStack => decoded(stack::decode(first, second, *out_length)),
         RecoverStack => written(stack::recover(first, second, *out_length)),
         MakeLabels => written(labeling::make(*number, *out_length)),
         ToLevels => written(labeling::to_levels(first, second, *out_length)),
@@ -147,7 +147,7 @@ pub fn expect(case: &Case) -> Expected {
 }
 
 fn expected(answer: Answer, out: Option<Vec<u8>>) -> Expected {
-    Expected { answer, out, most_tried: 0 }
+    Expected { answer, out }
 }
 
 fn refusal(number: usize) -> Expected {
@@ -172,9 +172,9 @@ fn sized(result: Result<usize, usize>) -> Expected {
     }
 }
 
-fn decoded(result: Result<Decoded, Refused>, most_tried: usize) -> Expected {
+fn decoded(result: Result<Decoded, Refused>) -> Expected {
     match result {
-        Ok(Decoded { word, count }) => Expected { answer: Answer { count, ..Answer::default() }, out: Some(word), most_tried },
+        Ok(Decoded { word, count }) => expected(Answer { count, ..Answer::default() }, Some(word)),
         Err(Refused { number, plane }) => expected(Answer { number, plane: plane.unwrap_or(0), ..Answer::default() }, None),
     }
 }
@@ -182,20 +182,21 @@ fn decoded(result: Result<Decoded, Refused>, most_tried: usize) -> Expected {
 fn recorded(result: Result<Record, usize>) -> Expected {
     match result {
         Ok(Record { entry, outcome }) => {
-            let Expected { answer, out, .. } = decoded(outcome, 0);
+            let Expected { answer, out } = decoded(outcome);
             expected(Answer { number: 0, entry, refusal: answer.number, ..answer }, out)
         }
         Err(number) => refusal(number),
     }
 }
 
-/// P of a description that opens.
-fn most_tried(body: &[u8]) -> usize {
-    code::Code::open(body).map_or(0, |code| code.pattern_count() as usize)
+/// Decoding a word of a code, with `tried` where it is given back.
+fn with_tried(mut expected: Expected, body: &[u8], word: &[u8]) -> Expected {
+    expected.answer.tried = expected.out.as_ref().map_or(0, |out| code::tried(body, word, out));
+    expected
 }
 
 /// Compare what a call answered and left in its output with what was expected. `before` is what the output held.
-pub fn compare(expected: &Expected, answer: Answer, tried: usize, out: &[u8], before: u8) -> Result<(), String> {
+pub fn compare(expected: &Expected, answer: Answer, out: &[u8], before: u8) -> Result<(), String> {
     let untouched = vec![before; out.len()];
     let wanted = expected.out.as_ref().unwrap_or(&untouched);
     if answer != expected.answer {
@@ -203,9 +204,6 @@ pub fn compare(expected: &Expected, answer: Answer, tried: usize, out: &[u8], be
     }
     if out != wanted {
         return Err(format!("output {out:?}\nexpected {wanted:?}"));
-    }
-    if tried > expected.most_tried || (tried == 0) != (expected.most_tried == 0) {
-        return Err(format!("tried {tried}, at most {} expected", expected.most_tried));
     }
     Ok(())
 }

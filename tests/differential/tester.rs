@@ -4,7 +4,7 @@ use crate::case::{call_library, compare, expect, Case, Operation};
 use crate::coverage::{label, Coverage};
 use crate::generate::Made;
 use crate::memory::{on_forbidden_access, Pages, Place, FILL};
-use std::collections::BTreeMap;
+use std::collections::{BTreeMap, BTreeSet};
 use std::ptr;
 use std::sync::atomic::{AtomicPtr, Ordering};
 
@@ -27,6 +27,8 @@ pub struct Tester {
     read: usize,
     beyond: usize,
     ways: BTreeMap<&'static str, usize>,
+    /// The figures of `tried` that came up.
+    tried: BTreeSet<usize>,
 }
 
 impl Tester {
@@ -42,6 +44,7 @@ impl Tester {
             read: 0,
             beyond: 0,
             ways: BTreeMap::new(),
+            tried: BTreeSet::new(),
         }
     }
 
@@ -53,9 +56,9 @@ impl Tester {
             let first = if case.first.len() > SMALL_BYTES { &mut self.first_large } else { &mut self.first_small };
             let (input, second) = (first.input(&case.first, place), self.second.input(&case.second, place));
             let out = self.out.output(case.out_length, place);
-            let (answer, tried) = call_library(case.operation, case.number, input, second, out);
+            let answer = call_library(case.operation, case.number, input, second, out);
             let (out, around_untouched) = self.out.after(case.out_length, place);
-            let compared = compare(&expected, answer, tried, &out, FILL);
+            let compared = compare(&expected, answer, &out, FILL);
             let whole = compared.and_then(|()| around_untouched.then_some(()).ok_or("memory beside the output written".to_string()));
             whole.unwrap_or_else(|difference| fail(case, &difference));
             *self.calls.entry(case.operation).or_default() += 1;
@@ -64,6 +67,7 @@ impl Tester {
         let label = label(case, &expected.answer);
         self.count_reading(case.operation, &label);
         self.coverage.note(case.operation, &label);
+        self.tried.insert(expected.answer.tried);
         label
     }
 
@@ -95,6 +99,7 @@ impl Tester {
         println!("words read: {}, beyond reach: {} ({}%)", self.read, self.beyond, self.beyond * 100 / self.read.max(1));
         let few = ways.iter().filter(|way| self.ways.get(*way).copied().unwrap_or(0) < LEAST_OF_A_WAY).count();
         ways.iter().for_each(|way| println!("beyond reach, {way}: {}", self.ways.get(way).unwrap_or(&0)));
+        println!("patterns tried: {} figures, up to {}", self.tried.len(), self.tried.last().unwrap_or(&0));
         println!("{} calls compared", self.total());
         missing.is_empty() && few == 0 && self.beyond * 3 >= self.read
     }

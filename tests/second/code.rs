@@ -193,6 +193,12 @@ pub fn decode(body: &[u8], word: &[u8], out_length: usize) -> Result<Decoded, Re
     Ok(Decoded { count: cells_that_differ(word, &decoded), word: decoded })
 }
 
+/// Tried (document 02, wish 1): the place of the pattern that was subtracted from `word` where `decoded` was given back.
+pub fn tried(body: &[u8], word: &[u8], decoded: &[u8]) -> usize {
+    let code = Code::open(body).expect("a description that opens, since a word was given back");
+    pattern::place(code.n, code.l, code.t, &Pattern::between(word, decoded))
+}
+
 /// Recover a message: open; 8; 10; 12.
 pub fn recover(body: &[u8], word: &[u8], out_length: usize) -> Result<Vec<u8>, usize> {
     let code = Code::open(body)?;

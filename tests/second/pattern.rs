@@ -31,6 +31,13 @@ impl Pattern {
         self
     }
 
+    /// The pattern whose subtraction from `word` is `lower`.
+    pub fn between(word: &[u8], lower: &[u8]) -> Pattern {
+        let fall = |(above, below): (&u8, &u8)| usize::from(above - below);
+        let falls = word.iter().zip(lower).map(fall).enumerate();
+        falls.filter(|&(_, fall)| fall > 0).fold(Pattern::EMPTY, |pattern, (cell, fall)| pattern.with(cell, fall))
+    }
+
     fn first_free_cell(&self) -> usize {
         self.risen().last().map_or(0, |(cell, _)| cell + 1)
     }
@@ -55,6 +62,11 @@ pub fn all(n: usize, l: usize, t: usize) -> Rc<Vec<Pattern>> {
         static LISTED: RefCell<Lists> = RefCell::new(Lists::new());
     }
     LISTED.with(|listed| listed.borrow_mut().entry((n, l, t)).or_insert_with(|| Rc::new(list(n, l, t))).clone())
+}
+
+/// The place of a pattern, counted from 1, in document 01's order.
+pub fn place(n: usize, l: usize, t: usize, pattern: &Pattern) -> usize {
+    all(n, l, t).binary_search(pattern).expect("a pattern of these") + 1
 }
 
 fn list(n: usize, l: usize, t: usize) -> Vec<Pattern> {

@@ -38,8 +38,8 @@ impl Source {
     /// Call the library. The second implementation must agree.
     fn call(&mut self, case: &Case) -> (Answer, Vec<u8>) {
         let mut out = vec![FILL; case.out_length];
-        let (answer, tried) = call_library(case.operation, case.number, &case.first, &case.second, &mut out);
-        let compared = compare(&expect(case), answer, tried, &out, FILL);
+        let answer = call_library(case.operation, case.number, &case.first, &case.second, &mut out);
+        let compared = compare(&expect(case), answer, &out, FILL);
         compared.unwrap_or_else(|difference| self.fail(&format!("{case:?}\n{difference}")));
         (answer, out)
     }
@@ -70,6 +70,12 @@ impl Source {
     pub fn decodes(&mut self, operation: Operation, body: &[u8], word: &[u8], codeword: &[u8], count: usize) {
         let answer = self.gives(&Case::with(operation, body, word, codeword.len()), codeword);
         self.holds(&format!("{body:?} reads {word:?} with count {count}"), answer.count == count);
+    }
+
+    /// The word is given back by the pattern at that place in the order, counted from 1.
+    pub fn tries(&mut self, body: &[u8], word: &[u8], place: usize) {
+        let answer = self.answers(&Case::with(Operation::Decode, body, word, word.len()), 0);
+        self.holds(&format!("{body:?} reads {word:?} with {place} tried, not {answer:?}"), answer.tried == place);
     }
 
     /// Messages of 0 and of 1 in every data cell are encoded; every rise up to l of every cell of these codewords is

@@ -1,7 +1,7 @@
 -- What the answers of the operations mean in document 01's numbers and values.
 use mathlib.Core.List.{List}
 use mathlib.Core.Option.{Option, none, some}
-use Prim.Native.Nat.{ℕ, _≤_}
+use Prim.Native.Nat.{ℕ}
 use Rattle.definitions.specs.Answers.{Answer, given, refused, refusedAt, Result}
 use Rattle.answers.specs.declared.Refusal.{Refusal}
 use Rattle.answers.specs.declared.Refusal.the-variants as refusal
@@ -81,6 +81,11 @@ abbrev pub readAs : ReadAnswer → Answer ℕ
 readAs (read.Count count tried) = given count
 readAs (read.Refused x) = refusedAs x
 
+-- how many patterns were tried, which goes with a count
+abbrev pub triedAs : ReadAnswer → Answer ℕ
+triedAs (read.Count count tried) = given tried
+triedAs (read.Refused x) = refusedAs x
+
 abbrev pub outcomeAs : Outcome → Answer ℕ
 outcomeAs (outcome.Count k) = given k
 outcomeAs (outcome.Refused x) = refusedAs x
@@ -88,8 +93,3 @@ outcomeAs (outcome.Refused x) = refusedAs x
 abbrev pub sizedAs : SizeAnswer → Answer ℕ
 sizedAs (size.Size k) = given k
 sizedAs (size.Refused x) = refusedAs x
-
--- a count comes with how many patterns were tried: at least one and at most P
-abbrev pub TriedWithin : ℕ → ReadAnswer → Type 0
-TriedWithin P (read.Count count tried) = (1 ≤ tried) × (tried ≤ P)
-TriedWithin P (read.Refused x) = Unit {0}

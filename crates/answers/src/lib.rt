@@ -79,7 +79,7 @@ pub enum WriteAnswer {
     Refused(Refusal),
 }
 
-// Reading a word of a code; tried is how many patterns were tried.
+// Reading a word of a code; tried is how many patterns were tried, up to the given one.
 pub enum ReadAnswer {
     Count { count: usize, tried: usize },
     Refused(Refusal),

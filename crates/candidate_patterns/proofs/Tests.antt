@@ -62,18 +62,14 @@ module _ (p : Code) (y s : List ℕ) (is : Syndrome p y s) where
   unfolding hasSyndrome sameSyndrome
   tests-same e z = ap (sameWord (syndrome p e)) taken
 
-  pub tests-fit : (e : List ℕ) → testOf true p s y e ≡ fits p y e
-  unfolding fits
-  tests-fit e = ap (λ (b : Bool). b && nowhereAbove e y && isCodeword p (subtract y e)) (tests-same e y)
+  pub tests-fit : _≡_ {A = List ℕ → Bool} (testOf true p s y) (fits p y)
+  unfolding hasSyndrome sameSyndrome fits
+  tests-fit = ap (λ (x : List ℕ). λ (e : List ℕ). sameWord (syndrome p e) x && nowhereAbove e y && isCodeword p (subtract y e)) taken
 
   -- and so is what is found
   pub first-same : (z : List ℕ) (es : List (List ℕ)) → first (testOf false p s z) es ≡ first (sameSyndrome p y) es
   unfolding hasSyndrome sameSyndrome
   first-same z es = ap (λ (x : List ℕ). first (λ (e : List ℕ). sameWord (syndrome p e) x) es) taken
-
-  pub first-fits : (es : List (List ℕ)) → first (testOf true p s y) es ≡ first (fits p y) es
-  unfolding hasSyndrome sameSyndrome fits
-  first-fits es = ap (λ (x : List ℕ). first (λ (e : List ℕ). sameWord (syndrome p e) x && nowhereAbove e y && isCodeword p (subtract y e)) es) taken
 
 -- its entries are in their range
 pub syndrome-range : (q : Parameters) (A y s : List ℕ) → Ready q A → length y ≡ q .n → Syndrome (codeWith q A) y s → SyndromeInRange (codeWith q A) s
@@ -142,7 +138,7 @@ module _ (a : Asked) (A y : List ℕ) (asks : Asks a A y) (k : Risen) (rest : Li
 
 -- the test where a codeword is asked for, and where it is not
 pub codeword-decides : (p : Code) (s y e : List ℕ) (b r : Bool) → b ≡ true → Syndrome p y s → r ≡ fits p y e → r ≡ testOf b p s y e
-codeword-decides p s y e b r eb is er = rw eb (er ∙ sym (tests-fit p y s is e))
+codeword-decides p s y e b r eb is er = rw eb (er ∙ sym (ap (λ (f : List ℕ → Bool). f e) (tests-fit p y s is)))
 
 pub syndrome-decides : (p : Code) (s y e : List ℕ) (b : Bool) → b ≡ false → hasSyndrome p s e ≡ true → true ≡ testOf b p s y e
 syndrome-decides p s y e b eb er = rw eb (sym er)

@@ -1,4 +1,4 @@
-// Answers as text. What is counted as tried is not printed: document 01 leaves it free.
+// Answers as text.
 use answers::Outcome;
 use answers::ReadAnswer;
 use answers::Refusal;
@@ -71,7 +71,10 @@ pub fn write(a: WriteAnswer, out: &[u8]) {
 
 pub fn read(a: ReadAnswer, out: &[u8]) {
     match a {
-        ReadAnswer::Count { count, tried: _ } => named(b"count ", count),
+        ReadAnswer::Count { count, tried } => {
+            named(b"count ", count);
+            named(b" tried ", tried);
+        }
         ReadAnswer::Refused(x) => refusal(x),
     }
     buffer(out);

@@ -1,35 +1,59 @@
--- From decoding's equation to the demands on its answer and on what its buffer holds at exit.
-use mathlib.Core.Path.{_≡_}
+-- From decoding's equations to the demands on its answer and on what its buffer holds at exit.
+use mathlib.Core.Path.{_≡_, sym, ap, subst}
 use mathlib.Core.List.{List}
 use Prim.Native.Nat.{ℕ}
-use Rattle.definitions.specs.Answers.{Answer}
+use Rattle.definitions.specs.Answers.{Answer, given, Result, after}
+use Rattle.definitions.specs.Codes.{codeOf}
 use Rattle.definitions.specs.CodeOperations.{decodeCode}
+use Rattle.definitions.specs.Tried.{tried, triedCode, TriedIsPlace}
 use Rattle.definitions.specs.Demands.{ofCode, DistanceDecides, SomeCodeword, KeepsMessages}
-use Rattle.answers.specs.Answering.{leaves}
-use Rattle.answers.proofs.Beginning.{carried}
+use Rattle.answers.specs.Answering.{refusedAs, readAs, triedAs, leaves}
+use Rattle.answers.specs.declared.Refusal.{Refusal}
+use Rattle.answers.specs.declared.ReadAnswer.{ReadAnswer}
+use Rattle.answers.specs.declared.ReadAnswer.the-variants as read
+use Rattle.answers.proofs.Beginning.{carried, after-refused}
 use Rattle.code_operations.specs.CodeClauses.{WhereCodeReads, WhereCodeAccepted}
 use Rattle.code_theorems.proofs.Demands.{decode-demand, decode-some, decode-keeps}
+use Rattle.code_theorems.proofs.Tried.{tried-is-place}
 
--- T is what the answer says of the patterns tried
-module _ (b y lent : List ℕ) {a : Answer ℕ} {out : List ℕ} {T : Type 0} where
-  pub decode-clauses :
-      leaves a out ≡ decodeCode b y lent
-      → T
-      → (leaves a out ≡ decodeCode b y lent)
-      × (T
-      × (WhereCodeAccepted b y lent (λ p. DistanceDecides (ofCode p) y a out)
-      × (WhereCodeReads b y lent (λ p. SomeCodeword (ofCode p) y a out) × WhereCodeAccepted b y lent (λ p. KeepsMessages (ofCode p) y a out))))
-  decode-clauses e t =
+module _ (b y lent out : List ℕ) where
+  -- the clauses of decode, of its answer
+  abbrev Clauses : ReadAnswer → Type 0
+  Clauses a =
+      (leaves (readAs a) out ≡ decodeCode b y lent)
+      × ((triedAs a ≡ triedCode b y lent)
+      × (TriedIsPlace (codeOf b) y (triedAs a) out
+      × (WhereCodeAccepted b y lent (λ p. DistanceDecides (ofCode p) y (readAs a) out)
+      × (WhereCodeReads b y lent (λ p. SomeCodeword (ofCode p) y (readAs a) out)
+      × WhereCodeAccepted b y lent (λ p. KeepsMessages (ofCode p) y (readAs a) out)))))
+
+  clauses : (a : ReadAnswer) → leaves (readAs a) out ≡ decodeCode b y lent → triedAs a ≡ triedCode b y lent → Clauses a
+  clauses a e t =
       let r = decodeCode b y lent in (
         e,
         (
           t,
           (
-            (λ p opens ly lo h fit. carried (DistanceDecides (ofCode p) y) r e (decode-demand b p opens y lent ly lo h fit)),
+            subst (λ (u : Answer ℕ). TriedIsPlace (codeOf b) y u out) (sym t)
+                (carried (λ _ x. TriedIsPlace (codeOf b) y (triedCode b y lent) x) r e (tried-is-place b y lent)),
             (
-              (λ p opens ly lo h. carried (SomeCodeword (ofCode p) y) r e (decode-some b p opens y lent ly lo h)),
-              (λ p opens ly lo h fit. carried (KeepsMessages (ofCode p) y) r e (decode-keeps b p opens y lent ly lo h fit)),
+              (λ p opens ly lo h fit. carried (DistanceDecides (ofCode p) y) r e (decode-demand b p opens y lent ly lo h fit)),
+              (
+                (λ p opens ly lo h. carried (SomeCodeword (ofCode p) y) r e (decode-some b p opens y lent ly lo h)),
+                (λ p opens ly lo h fit. carried (KeepsMessages (ofCode p) y) r e (decode-keeps b p opens y lent ly lo h fit)),
+              ),
             ),
           ),
         ),
       )
+
+  pub refused-clauses : (x : Refusal) → leaves (refusedAs x) out ≡ decodeCode b y lent → Clauses (read.Refused x)
+  unfolding triedCode
+  refused-clauses x e =
+      clauses (read.Refused x) e (sym (after-refused (decodeCode b y lent .answer) x _ (sym (ap (λ (r : Result ℕ). r .answer) e))))
+
+  pub count-clauses : (count u : ℕ) → leaves (given count) out ≡ decodeCode b y lent → u ≡ tried (codeOf b) y → Clauses (read.Count count u)
+  unfolding triedCode
+  count-clauses count u e t =
+      clauses (read.Count count u) e
+      (rw t (ap (λ (a : Answer ℕ). after a λ _. given (tried (codeOf b) y)) (ap (λ (r : Result ℕ). r .answer) e)))

@@ -3,15 +3,16 @@ use mathlib.Core.Path.{_≡_, sym, ap, ap₂, subst, _∙_}
 use mathlib.Core.Bool.{true}
 use mathlib.Core.List.{List}
 use mathlib.Core.Option.{some, none}
-use Prim.Native.Nat.{ℕ, _-_, _≤_, _<_}
+use Prim.Native.Nat.{ℕ, _-_, _<_}
 use native.Mathlib.Omega.{arith}
 use lib.ListN.{length}
 use Rattle.definitions.specs.Words.{at, subtract}
 use Rattle.definitions.specs.Answers.{given, refused, result}
 use Rattle.definitions.specs.Codes.{Code, codeOf}
-use Rattle.definitions.specs.Patterns.{patternsOf, patternCount}
+use Rattle.definitions.specs.Patterns.{patternsOf}
 use Rattle.definitions.specs.Decoding.{first, fits, decode}
 use Rattle.definitions.specs.CodeOperations.{openCode}
+use Rattle.definitions.specs.Tried.{tried}
 use Rattle.candidate_patterns.specs.Candidates.{magnitudeAt, wordOf}
 use Rattle.search.specs.Search.{foundWord, CountsOf}
 use Rattle.candidate_patterns.specs.declared.Risen.{Risen}
@@ -33,22 +34,23 @@ module _ (y : List ℕ) (k : Risen) where
 
 module _ (p : Code) (y lent : List ℕ) (f : Found) (found : foundWord (p .n) f ≡ first (fits p y) (patternsOf p)) where
   pub when-found :
-      (k : Risen) (count tried : ℕ) (out : List ℕ) → f ≡ Pattern k count tried → CountsOf p f → out ≡ subtract y (wordOf (p .n) k)
+      (k : Risen) (count u : ℕ) (out : List ℕ) → f ≡ Pattern k count u → CountsOf p (fits p y) f → out ≡ subtract y (wordOf (p .n) k)
       → leaves (given count) out ≡ result (decode p y) lent
   unfolding decode
-  when-found k count tried out e c q =
+  when-found k count u out e c q =
       let g : first (fits p y) (patternsOf p) ≡ some (wordOf (p .n) k) = sym (sym (ap (foundWord (p .n)) e) ∙ found) in
-      let h : CountsOf p (Pattern k count tried) = subst (CountsOf p) e c in
+      let h : CountsOf p (fits p y) (Pattern k count u) = subst (CountsOf p (fits p y)) e c in
       rw (g, h .0, q)
 
   pub when-nothing : f ≡ Nothing → leaves (refused 11) lent ≡ result (decode p y) lent
   unfolding decode
   when-nothing e = let g : first (fits p y) (patternsOf p) ≡ none = sym (sym (ap (foundWord (p .n)) e) ∙ found) in rw g
 
--- the patterns tried are at most the description's P
-pub tried-within :
-    (b : List ℕ) (p : Code) (f : Found) (k : Risen) (count tried : ℕ) → openCode b ≡ given p → f ≡ Pattern k count tried → CountsOf p f
-    → (1 ≤ tried) × (tried ≤ patternCount (codeOf b))
-tried-within b p f k count tried opens e c =
-    let h : CountsOf p (Pattern k count tried) = subst (CountsOf p) e c in
-    (h .1, subst (λ (u : Code). tried ≤ patternCount u) (sym (opened b p opens .0)) (h .2))
+-- the patterns tried are the place of the first that fits
+pub tried-first :
+    (b : List ℕ) (p : Code) (y : List ℕ) (f : Found) (k : Risen) (count u : ℕ) → openCode b ≡ given p → f ≡ Pattern k count u → CountsOf p (fits p y) f
+    → u ≡ tried (codeOf b) y
+unfolding tried
+tried-first b p y f k count u opens e c =
+    let h : CountsOf p (fits p y) (Pattern k count u) = subst (CountsOf p (fits p y)) e c in
+    h .1 ∙ ap (λ (x : Code). tried x y) (sym (opened b p opens .0))

@@ -9,11 +9,11 @@ ghost use Prim.Native.Nat.{_<_};
 ghost use lib.ListN.{length};
 ghost use Rattle.definitions.specs.Words.{at, subtract};
 ghost use Rattle.definitions.specs.Codes.{codeOf};
-ghost use Rattle.definitions.specs.Patterns.{patternCount};
 ghost use Rattle.definitions.specs.CodeOperations.{decodeCode};
+ghost use Rattle.definitions.specs.Tried.{triedCode, TriedIsPlace};
 ghost use Rattle.definitions.specs.Demands.{ofCode, DistanceDecides, SomeCodeword, KeepsMessages};
 ghost use Rattle.candidate_patterns.specs.Candidates.{wordOf};
-ghost use Rattle.answers.specs.Answering.{readAs, leaves, TriedWithin};
+ghost use Rattle.answers.specs.Answering.{readAs, triedAs, leaves};
 ghost use Rattle.code_operations.specs.CodeClauses.{WhereCodeReads, WhereCodeAccepted};
 
 // The level of cell i + 1 once the pattern is subtracted.
@@ -40,10 +40,11 @@ fn store_decoded(word: &[u8], k: Risen, out: &mut [u8])
     }
 }
 
-// Document 01: read.
+// Document 01: read; tried as document 02's wish 1 has it.
 pub fn decode(body: &[u8], received: &[u8], out: &mut [u8]) -> ReadAnswer
     ensures result { λ r. ⌜ leaves (readAs r) (now (out .exit)) ≡ decodeCode (now (body .entry)) (now (received .entry)) (now (out .entry)) ⌝ }
-    ensures tried { λ r. ⌜ TriedWithin (patternCount (codeOf (now (body .entry)))) r ⌝ }
+    ensures tried { λ r. ⌜ triedAs r ≡ triedCode (now (body .entry)) (now (received .entry)) (now (out .entry)) ⌝ }
+    ensures tried_is_place { λ r. ⌜ TriedIsPlace (codeOf (now (body .entry))) (now (received .entry)) (triedAs r) (now (out .exit)) ⌝ }
     ensures distance_decides { λ r. ⌜ WhereCodeAccepted (now (body .entry)) (now (received .entry)) (now (out .entry))
         (λ p. DistanceDecides (ofCode p) (now (received .entry)) (readAs r) (now (out .exit))) ⌝ }
     ensures some_codeword { λ r. ⌜ WhereCodeReads (now (body .entry)) (now (received .entry)) (now (out .entry))

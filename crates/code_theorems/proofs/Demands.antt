@@ -88,7 +88,7 @@ module _ (b : List ℕ) (p : Code) (opens : openCode b ≡ given p) where
       encodes (recoverCode b c message .out) out (m .isMessage) lo ∙ (let e = m .again in rw e)
 
   module _ (y out : List ℕ) (ly : length y ≡ p .n) (lo : length out ≡ p .n) (levels : EachCell (λ v. v < p .q) y) where
-    decodes : decodeCode b y out ≡ result (decode p y) out
+    pub decodes : decodeCode b y out ≡ result (decode p y) out
     unfolding decodeCode
     decodes =
         rw (opens, eq-eqb (length y) (p .n) ly, eq-eqb (length out) (p .n) lo, is-true (allBelow (p .q) y) (each-below (p .q) y levels))

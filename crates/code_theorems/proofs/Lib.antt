@@ -16,6 +16,8 @@ pub mod Refusals
 pub mod Opened
 -- the demands for codes, from the description's bytes to the answer and the output buffer
 pub mod Demands
+-- patterns tried: the place of the given pattern
+pub mod Tried
 -- messages and the bytes that they travel as: one is got back from the other
 pub mod Packing
 -- circular reading and ours: for an accepted code they agree wherever a codeword is within reach, and where they differ ours is 11

@@ -1,10 +1,15 @@
 -- How a chain of refusals is passed: each of its tests in turn.
 use mathlib.Core.Path.{_≡_, refl}
-use mathlib.Core.Bool.{Bool, true, false, not}
-use Prim.Native.Nat.{ℕ}
+use mathlib.Core.Bool.{Bool, true, false, _&&_, not}
+use mathlib.Core.List.{List}
+use Prim.Native.Nat.{ℕ, _<_}
 use native.Mathlib.Omega.{arith}
-use lib.Dec.{T}
-use Rattle.definitions.specs.Answers.{Answer, given, refused, refusedAt, refuse_when_else_, after}
+use lib.Dec.{T, eqb, eqb→eq}
+use lib.ListN.{length}
+use Rattle.definitions.specs.Words.{allBelow, EachCell}
+use Rattle.definitions.specs.Answers.{Answer, given, refused, refusedAt, Result, refuse_when_else_, result, after}
+use Rattle.definitions.proofs.Tests.{and-left, and-right, below-each}
+use Rattle.code_theorems.proofs.Deciding.{result-given}
 
 module _ {A : Type 0} where
   -- what is given was not refused
@@ -25,3 +30,29 @@ pub after-given : {A B : Type 0} (a : Answer A) (f : A → Answer B) (y : B) →
 after-given (given x) f y e = (x, refl, e)
 after-given (refused k) f y e = let z : _≡_ {A = ℕ} 0 1 = cc in absurd (omega arith)
 after-given (refusedAt k j) f y e = let z : _≡_ {A = ℕ} 0 1 = cc in absurd (omega arith)
+
+-- where decoding gives a count, the description opened, the buffers fitted and the levels were below q: codes and stacks alike
+module _ {O : Type 0} (opening : Answer O) (n q : O → ℕ) (decoding : O → Answer (ℕ × List ℕ)) (y out : List ℕ) where
+  abbrev rest : O → Answer (ℕ × List ℕ)
+  rest o =
+      refuse 8 when not (eqb (length y) (n o) && eqb (length out) (n o)) else
+      refuse 10 when not (allBelow (q o) y) else
+      decoding o
+
+  abbrev reading : Result ℕ
+  reading = result (after opening rest) out
+
+  pub given-read :
+      (k : ℕ) → reading .answer ≡ given k
+      → (o : O) × (opening ≡ given o) × (length y ≡ n o) × (length out ≡ n o) × EachCell (λ v. v < q o) y
+  given-read k e =
+      let g = result-given (after opening rest) out k e in
+      let (o, opens, e₁) = after-given opening rest _ g in
+      let (h₁, e₂) = passed 8 (eqb (length y) (n o) && eqb (length out) (n o)) _ _ e₁ in
+      let (h₂, _) = passed 10 (allBelow (q o) y) _ _ e₂ in (
+        o,
+        opens,
+        eqb→eq (length y) (n o) (and-left (eqb (length y) (n o)) (eqb (length out) (n o)) h₁),
+        eqb→eq (length out) (n o) (and-right (eqb (length y) (n o)) (eqb (length out) (n o)) h₁),
+        below-each (q o) y h₂,
+      )

@@ -1,24 +1,28 @@
 -- Operations on codes that answer wrongly do not meet the demands. Witnesses: R, the words 4 5 3 2 1 and
 -- 0 1 1 1 1, and the message 3 2 1 0 0.
-use mathlib.Core.Path.{_≡_, refl}
+use mathlib.Core.Path.{_≡_, refl, sym, ap, _∙_}
 use mathlib.Core.List.{List, [], _∷_}
 use mathlib.Core.Option.{some}
 use Prim.Native.Nat.{ℕ}
 use native.Mathlib.Omega.{arith}
 use lib.Dec.{lit≤}
+use Rattle.definitions.specs.Words.{subtract, weight}
 use Rattle.definitions.specs.Answers.{Answer, given, refused, number}
 use Rattle.definitions.specs.Codes.{Code, codeOf}
 use Rattle.definitions.specs.Codewords.{syndromeEntry, syndrome, Codeword, isCodeword}
-use Rattle.definitions.specs.Patterns.{patternsOf, patternCount}
+use Rattle.definitions.specs.Patterns.{patternsOf, patternCount, Pattern}
 use Rattle.definitions.specs.Acceptance.{Accepted, accepted}
 use Rattle.definitions.specs.Decoding.{sameSyndrome, fits, decode}
 use Rattle.definitions.specs.Messages.{message}
 use Rattle.definitions.specs.CodeOperations.{inRange, openCode, decodeCode}
 use Rattle.definitions.specs.Demands.{ofCode, Tested, OneCodeword, Recovered, DistanceDecides, SomeCodeword, KeepsMessages, WithinReach}
+use Rattle.definitions.specs.Tried.{placeOf, PatternsBefore, GivenAt, TriedIsPlace}
 use Rattle.definitions.specs.Examples.{R, lent, zeros}
+use Rattle.word_laws.proofs.Subtraction.{subtract-back}
 use Rattle.code_theorems.proofs.Codewords.{test-codeword}
 use Rattle.code_theorems.proofs.Acceptance.{acceptance}
 use Rattle.code_theorems.proofs.Demands.{decode-demand}
+use Rattle.code_theorems.proofs.Tried.{patterns-before, one-number}
 
 pub code : Code
 code = codeOf R
@@ -87,6 +91,36 @@ other-number k out other h =
 -- an invented count
 pub invented-count : (k : ℕ) (out : List ℕ) → (k ≡ 2 → ⊥) → DistanceDecides (ofCode code) read (given k) out → ⊥
 invented-count k out other h = let e : _≡_ {A = Answer ℕ} (given k) (given 2) = h .count written near in other (cc)
+
+-- the pattern by which a word y is given back as x
+given-pattern : (y x : List ℕ) (k : ℕ) (h : GivenAt code y x k) → h .pattern ≡ subtract y x
+given-pattern y x k h =
+    sym (subtract-back y (h .pattern) (h .subtracted .nowhereAbove)) ∙ ap (subtract y) (h .subtracted .leaves)
+
+-- a reader that reports another number of patterns tried: 1 0 0 1 0 is at place 9
+pub other-place : (k : ℕ) → (k ≡ 9 → ⊥) → TriedIsPlace code read (given k) written → ⊥
+unfolding code R placeOf patternsOf
+other-place k other h = let g = h k refl in other (g .place ∙ ap (placeOf code) (given-pattern read written k g))
+
+-- and another number of patterns before it than 8
+pub other-number-before : (k : ℕ) → (k ≡ 8 → ⊥) → PatternsBefore code (subtract read written) k → ⊥
+unfolding code R placeOf patternsOf
+other-number-before k other h =
+    other (one-number code (subtract read written) k 8 h (patterns-before code (subtract read written) risen))
+  where
+    risen : Pattern code (subtract read written)
+    risen = record { long = refl; each = omega arith; few = lit≤ tt }
+
+-- a reader that reports another number than 1 for the empty pattern; 0 patterns tried; more than R's 16
+pub empty-not-1 : (k : ℕ) → (k ≡ 1 → ⊥) → TriedIsPlace code written (given k) written → ⊥
+empty-not-1 k other h = let g = h k refl in other (g .empty (ap weight (given-pattern written written k g)))
+
+pub none-tried : (y x : List ℕ) → TriedIsPlace code y (given 0) x → ⊥
+none-tried y x h = omega (arith, h 0 refl .least)
+
+pub more-than-all : (y x : List ℕ) → TriedIsPlace code y (given 17) x → ⊥
+unfolding code R patternCount
+more-than-all y x h = let l = h 17 refl .most in omega arith
 
 -- a writer that emits one fixed codeword
 pub fixed-codeword : OneCodeword (ofCode code) carried (given tt) (zeros 5) → ⊥

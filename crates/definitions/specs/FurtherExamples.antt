@@ -8,7 +8,7 @@ use Rattle.definitions.specs.Codes.{codeOf}
 use Rattle.definitions.specs.Decoding.{fits}
 use Rattle.definitions.specs.CodeOperations.{recoverCode}
 use Rattle.definitions.specs.StackOperations.{encodeStack, recoverStack}
-use Rattle.definitions.specs.Examples.{Example, tests, testsStack, decodes, circular, checks, readsRow, lists, writes, passes}
+use Rattle.definitions.specs.Examples.{Example, tests, testsStack, decodes, tries, circular, checks, readsRow, lists, writes, passes}
 use Rattle.definitions.specs.Examples.{lent, zeros, back, declined, R, F, S, H, K, G}
 
 -- no cell may rise
@@ -47,6 +47,15 @@ further =
     ∷ writes (recoverCode R (3 ∷ 5 ∷ 3 ∷ 1 ∷ 1 ∷ []) (lent 5)) (back tt (3 ∷ 2 ∷ 1 ∷ 0 ∷ 0 ∷ []))
     ∷ writes (encodeStack S (1 ∷ 0 ∷ 1 ∷ []) (lent 3)) (back tt (5 ∷ 5 ∷ 5 ∷ []))
     ∷ writes (recoverStack S (5 ∷ 5 ∷ 5 ∷ []) (lent 3)) (back tt (1 ∷ 0 ∷ 1 ∷ []))
+    -- wish 1, patterns tried: examples b, c, d and f; a codeword; the last of R's 16 patterns; refused rows
+    ∷ tries R (4 ∷ 5 ∷ 3 ∷ 2 ∷ 1 ∷ []) (given 9)
+    ∷ tries R (4 ∷ 6 ∷ 3 ∷ 2 ∷ 1 ∷ []) (given 15)
+    ∷ tries R (1 ∷ zeros 4) (given 2)
+    ∷ tries F (2 ∷ zeros 11) (given 3)
+    ∷ tries R (3 ∷ 5 ∷ 3 ∷ 1 ∷ 1 ∷ []) (given 1)
+    ∷ tries R (0 ∷ 0 ∷ 0 ∷ 1 ∷ 1 ∷ []) (given 16)
+    ∷ tries R (0 ∷ 1 ∷ 1 ∷ 1 ∷ 1 ∷ []) (refused 11)
+    ∷ tries R (8 ∷ zeros 4) (refused 10)
     -- circular reading raises 0 to the top level where d is refused; without acceptance it may differ from a word given back
     ∷ circular R (0 ∷ 1 ∷ 1 ∷ 1 ∷ 1 ∷ []) (given (1, 7 ∷ 1 ∷ 1 ∷ 1 ∷ 1 ∷ []))
     ∷ decodes G (0 ∷ 1 ∷ []) (back 1 (zeros 2))

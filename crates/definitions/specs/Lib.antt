@@ -16,6 +16,8 @@ pub mod Decoding
 pub mod Messages
 -- the operations on codes, for every byte string and every buffer: document 01's refusals in their order
 pub mod CodeOperations
+-- patterns tried, to the number: document 02's wish 1
+pub mod Tried
 -- powers of two, and the bits of a number
 pub mod PowersOfTwo
 -- packing: the message of a code as bytes (document 01: bytes)

@@ -5,9 +5,9 @@ use row_numbers::RowNumbers;
 ghost use mathlib.Core.Path.{_≡_};
 ghost use lib.ListN.{length};
 ghost use Rattle.definitions.specs.Codes.{codeOf};
-ghost use Rattle.definitions.specs.Patterns.{patternCount};
 ghost use Rattle.definitions.specs.Acceptance.{Accepted};
 ghost use Rattle.definitions.specs.CodeOperations.{testCode, encodeCode, decodeCode, recoverCode};
+ghost use Rattle.definitions.specs.Tried.{triedCode, GivenAt};
 ghost use Rattle.definitions.specs.Answers.{given};
 ghost use Rattle.definitions.specs.StackCodewords.{StackCodeword, AcceptedStack};
 ghost use Rattle.definitions.specs.StackMessages.{StackMessage, messageLength};
@@ -25,7 +25,7 @@ ghost use Rattle.stack_decoding.specs.StackReading.{WhereStackReads, WhereStack
 ghost use Rattle.row_reading.specs.RowClauses.{WherePlanRow, WhereStackRow, RecordDecides};
 ghost use Rattle.row_numbers.specs.RowNumbers.{RowNumbered, rowBy};
 ghost use Rattle.packing.specs.Packing.{WherePacked, WhereUnpacked};
-ghost use Rattle.numbered_answers.specs.Numbers.{numberOf, ReadNumbered, SizeNumbered, answerBy, countBy, TriedBy};
+ghost use Rattle.numbered_answers.specs.Numbers.{numberOf, countOf, ReadNumbered, SizeNumbered, answerBy, countBy};
 
 // Test a plan.
 #[no_mangle]
@@ -52,7 +52,8 @@ pub extern "C" fn levels_encode(body: &[u8], message: &[u8], out: &mut [u8]) -> 
 pub extern "C" fn levels_decode(body: &[u8], word: &[u8], out: &mut [u8]) -> Reading
     ensures numbers { λ r. ⌜ ReadNumbered (decodeCode (now (body .entry)) (now (word .entry)) (now (out .entry)) .answer) r ⌝ }
     ensures buffer { λ r. ⌜ now (out .exit) ≡ decodeCode (now (body .entry)) (now (word .entry)) (now (out .entry)) .out ⌝ }
-    ensures tried { λ r. ⌜ TriedBy (patternCount (codeOf (now (body .entry)))) (r .number) (r .tried) ⌝ }
+    ensures tried { λ r. ⌜ r .tried ≡ countOf (triedCode (now (body .entry)) (now (word .entry)) (now (out .entry))) ⌝ }
+    ensures tried_is_place { λ r. ⌜ (r .number ≡ 0 → GivenAt (codeOf (now (body .entry))) (now (word .entry)) (now (out .exit)) (r .tried)) ⌝ }
     ensures distance_decides { λ r. ⌜ WhereCodeAccepted (now (body .entry)) (now (word .entry)) (now (out .entry))
         (λ p. DistanceDecides (ofCode p) (now (word .entry)) (countBy (r .number) (r .count)) (now (out .exit))) ⌝ }
     ensures some_codeword { λ r. ⌜ WhereCodeReads (now (body .entry)) (now (word .entry)) (now (out .entry))

@@ -18,8 +18,7 @@ use Rattle.definitions.specs.StackOperations.{openStack, testStack, decodeStack
 use Rattle.definitions.specs.Images.{bodyOf, referenceOf, decodeRow}
 use Rattle.definitions.proofs.Tests.{and-left, and-right, below-each}
 use Rattle.word_laws.proofs.Cells.{each-map}
-use Rattle.code_theorems.proofs.Refusals.{passed, not-refused, after-given}
-use Rattle.code_theorems.proofs.Deciding.{result-given}
+use Rattle.code_theorems.proofs.Refusals.{not-refused, after-given, given-read}
 use Rattle.code_theorems.proofs.Opened.{opened}
 use Rattle.code_theorems.proofs.Demands.{decode-some}
 use Rattle.stack_theorems.proofs.Opened.{stack-opened}
@@ -37,30 +36,6 @@ distance-short (a ∷ x) (b ∷ y) = let h = distance-short x y in step (eqb a b
     step : (t : Bool) → distance x y ≤ length x → cond t 0 1 + distance x y ≤ suc (length x)
     step true h = omega arith
     step false h = omega arith
-
--- where decoding gives a count, the description opened, the buffers fitted and the levels were below q: codes and stacks alike
-module _ {O : Type 0} (opening : Answer O) (n q : O → ℕ) (decoding : O → Answer (ℕ × List ℕ)) (y out : List ℕ) where
-  abbrev rest : O → Answer (ℕ × List ℕ)
-  rest o =
-      refuse 8 when not (eqb (length y) (n o) && eqb (length out) (n o)) else
-      refuse 10 when not (allBelow (q o) y) else
-      decoding o
-
-  abbrev reading : Result ℕ
-  reading = result (after opening rest) out
-
-  given-read : (k : ℕ) → reading .answer ≡ given k → (o : O) × (opening ≡ given o) × (length y ≡ n o) × (length out ≡ n o) × EachCell (λ v. v < q o) y
-  given-read k e =
-      let g = result-given (after opening rest) out k e in
-      let (o, opens, e₁) = after-given opening rest _ g in
-      let (h₁, e₂) = passed 8 (eqb (length y) (n o) && eqb (length out) (n o)) _ _ e₁ in
-      let (h₂, _) = passed 10 (allBelow (q o) y) _ _ e₂ in (
-        o,
-        opens,
-        eqb→eq (length y) (n o) (and-left (eqb (length y) (n o)) (eqb (length out) (n o)) h₁),
-        eqb→eq (length out) (n o) (and-right (eqb (length y) (n o)) (eqb (length out) (n o)) h₁),
-        below-each (q o) y h₂,
-      )
 
 -- a count k whose levels are a word of n cells below q, at distance k from the row
 small : (n q k : ℕ) (out y : List ℕ) → n ≤ 64 → q ≤ 64 → length out ≡ n → EachCell (λ v. v < q) out → k ≡ distance out y → Printable (given k) out

@@ -10,7 +10,7 @@ use Rattle.definitions.specs.Codes.{Code}
 use Rattle.definitions.specs.PackingOperations.{Packed, Unpacked}
 use Rattle.definitions.specs.Demands.{Coding, Tested, OneCodeword, Recovered, DistanceDecides, SomeCodeword}
 use Rattle.definitions.specs.Demands.{GivenWithinReach, KeepsMessages}
-use Rattle.answers.specs.Answering.{refusalNumber, refusalPlane, withPlane, refusedAs, testedAs, writtenAs, readAs, outcomeAs, leaves, TriedWithin}
+use Rattle.answers.specs.Answering.{refusalNumber, refusalPlane, withPlane, refusedAs, testedAs, writtenAs, readAs, triedAs, outcomeAs, leaves}
 use Rattle.answers.specs.declared.Refusal.{Refusal}
 use Rattle.answers.specs.declared.TestAnswer.{TestAnswer}
 use Rattle.answers.specs.declared.TestAnswer.the-variants as test
@@ -20,9 +20,9 @@ use Rattle.answers.specs.declared.ReadAnswer.{ReadAnswer}
 use Rattle.answers.specs.declared.ReadAnswer.the-variants as read
 use Rattle.answers.specs.declared.Outcome.{Outcome}
 use Rattle.answers.specs.declared.Outcome.the-variants as outcome
-use Rattle.numbered_answers.specs.Numbers.{numberOf, countOf, triedOf, ReadNumbered, answerBy, countBy, TriedBy}
+use Rattle.numbered_answers.specs.Numbers.{numberOf, countOf, ReadNumbered, answerBy, countBy}
 use Rattle.numbered_answers.specs.declared.Reading.{Reading}
-use Rattle.numbered_answers.proofs.Refused.{positive}
+use Rattle.numbered_answers.proofs.Refused.{positive, refused-number}
 
 -- two answers of reading that give the same and are refused by the same number
 pub record Alike (a b : Answer ℕ) : Type 0 where
@@ -46,16 +46,6 @@ read-alike (read.Refused x) = alike-refused (refusalNumber x) (refusalPlane x) (
 pub outcome-alike : (a : Outcome) → Alike (outcomeAs a) (countBy (numberOf (outcomeAs a)) (countOf (outcomeAs a)))
 outcome-alike (outcome.Count k) = record { to = λ i e. e; from = λ i e. e; same = refl }
 outcome-alike (outcome.Refused x) = alike-refused (refusalNumber x) (refusalPlane x) (positive x)
-
--- the patterns tried
-pub tried-stands : (P : ℕ) (a : ReadAnswer) → TriedWithin P a → TriedBy P (numberOf (readAs a)) (triedOf a)
-tried-stands P (read.Count count tried) h = h
-tried-stands P (read.Refused x) h = step (refusalNumber x) (refusalPlane x) (positive x)
-  where
-    step : (k : ℕ) (j : Option ℕ) → 1 ≤ k → TriedBy P (numberOf (withPlane {A = ℕ} k j)) 0
-    step zero j p = absurd (omega arith)
-    step (suc k) none p = refl
-    step (suc k) (some j) p = refl
 
 module _ (K : Coding) (y out : List ℕ) {a b : Answer ℕ} (h : Alike a b) where
   given-alike : {P : Type 0} → ((k : ℕ) × (a ≡ given k)) ↔ P → ((k : ℕ) × (b ≡ given k)) ↔ P
@@ -141,8 +131,10 @@ module _ (a : Answer ℕ) (r : Reading) (h : ReadNumbered a r) where
   pub alike-by : Alike a (countBy (numberOf a) (countOf a)) → Alike a (countBy (r .number) (r .count))
   alike-by k = let n = h .number-is in let c = h .count-is in rw (n, c) k
 
-pub tried-by : (P : ℕ) (a : ReadAnswer) (r : Reading) → ReadNumbered (readAs a) r → r .tried ≡ triedOf a → TriedWithin P a → TriedBy P (r .number) (r .tried)
-tried-by P a r h e w = let n = h .number-is in rw (n, e) (tried-stands P a w)
+-- the patterns tried, where nothing is refused
+pub tried-given : (a : ReadAnswer) (r : Reading) → ReadNumbered (readAs a) r → r .tried ≡ countOf (triedAs a) → r .number ≡ 0 → triedAs a ≡ given (r .tried)
+tried-given (read.Count count u) r h e z = rw e
+tried-given (read.Refused x) r h e z = absurd (omega (arith, h .number-is, refused-number ℕ x, positive x))
 
 -- what is not refused was written
 pub given-by : (a : WriteAnswer) (r : ℕ) → r ≡ numberOf (writtenAs a) → answerBy r ≡ given tt → writtenAs a ≡ given tt

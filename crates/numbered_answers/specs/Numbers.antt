@@ -1,12 +1,10 @@
 -- What the numbers that stand for an answer are.
 use mathlib.Core.Path.{_≡_}
 use mathlib.Core.Option.{Option, none, some}
-use Prim.Native.Nat.{ℕ, zero, suc, _≤_}
+use Prim.Native.Nat.{ℕ, zero, suc}
 use Rattle.definitions.specs.Answers.{Answer, given, refused, refusedAt}
 use Rattle.answers.specs.Answering.{refusalPlane}
 use Rattle.answers.specs.declared.Refusal.{Refusal}
-use Rattle.answers.specs.declared.ReadAnswer.{ReadAnswer}
-use Rattle.answers.specs.declared.ReadAnswer.the-variants as read
 use Rattle.numbered_answers.specs.declared.Reading.{Reading}
 use Rattle.numbered_answers.specs.declared.Size.{Size}
 
@@ -16,7 +14,7 @@ numberOf (given a) = 0
 numberOf (refused k) = k
 numberOf (refusedAt k j) = k
 
--- the count, or the size, or 0
+-- the count, the size or the patterns tried, or 0
 abbrev pub countOf : Answer ℕ → ℕ
 countOf (given k) = k
 countOf (refused k) = 0
@@ -34,11 +32,6 @@ orZero (some j) = j
 
 abbrev pub planeNumber : Refusal → ℕ
 planeNumber x = orZero (refusalPlane x)
-
--- how many patterns were tried, or 0
-abbrev pub triedOf : ReadAnswer → ℕ
-triedOf (read.Count count tried) = tried
-triedOf (read.Refused x) = 0
 
 -- the numbers r stand for the answer of reading
 pub record ReadNumbered (a : Answer ℕ) (r : Reading) : Type 0 where
@@ -60,8 +53,3 @@ answerBy (suc k) = refused (suc k)
 abbrev pub countBy : ℕ → ℕ → Answer ℕ
 countBy zero count = given count
 countBy (suc k) count = refused (suc k)
-
--- tried, with the number of an answer: from 1 to P with a count, 0 with a refusal
-abbrev pub TriedBy : ℕ → ℕ → ℕ → Type 0
-TriedBy P zero tried = (1 ≤ tried) × (tried ≤ P)
-TriedBy P (suc k) tried = tried ≡ 0

@@ -6,8 +6,8 @@ use answers::SizeAnswer;
 use answers::TestAnswer;
 use answers::WriteAnswer;
 ghost use mathlib.Core.Path.{_≡_};
-ghost use Rattle.answers.specs.Answering.{testedAs, writtenAs, readAs, outcomeAs, sizedAs};
-ghost use Rattle.numbered_answers.specs.Numbers.{numberOf, planeNumber, ReadNumbered, SizeNumbered, triedOf};
+ghost use Rattle.answers.specs.Answering.{testedAs, writtenAs, readAs, triedAs, outcomeAs, sizedAs};
+ghost use Rattle.numbered_answers.specs.Numbers.{numberOf, countOf, planeNumber, ReadNumbered, SizeNumbered};
 
 // A count with how many patterns were tried, or a refusal's number; the plane goes with a stack's 11.
 #[repr(C)]
@@ -56,7 +56,7 @@ fn plane_of(x: Refusal) -> usize
 
 pub fn of_read(a: ReadAnswer) -> Reading
     ensures numbers { λ r. ⌜ ReadNumbered (readAs a) r ⌝ }
-    ensures tried { λ r. ⌜ r .tried ≡ triedOf a ⌝ }
+    ensures tried { λ r. ⌜ r .tried ≡ countOf (triedAs a) ⌝ }
 {
     match a {
         ReadAnswer::Count { count, tried } => Reading {

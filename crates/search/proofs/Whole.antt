@@ -1,10 +1,10 @@
 -- The list of all patterns: its parts by weight, its length, and the first of it that passes a test.
 use mathlib.Core.Path.{_≡_, refl, sym, ap, ap₂, _∙_, subst}
-use mathlib.Core.Bool.{Bool, true, false}
+use mathlib.Core.Bool.{Bool, true, false, cond}
 use mathlib.Core.List.{List, [], _∷_, _++_, map-id, List·Memᴰ, List·Memᴰ·head, List·Memᴰ·tail}
 use mathlib.Core.Option.{Option, none, some, Option·none-ne-some}
 use Prim.Native.Nat.{ℕ, zero, suc, _+_, _-_, _≤_, _<_}
-use native.Mathlib.Nat.{sub-zero}
+use native.Mathlib.Nat.{sub-zero, zero-add}
 use native.Mathlib.Numerals.{sub-one}
 use native.Mathlib.Decide.{decLt}
 use native.Mathlib.Omega.{arith}
@@ -13,6 +13,7 @@ use Rattle.definitions.specs.Words.{upFrom, weight}
 use Rattle.definitions.specs.Codes.{Code}
 use Rattle.definitions.specs.Patterns.{ofWeight, patterns, magnitudes, patternsOf, patternCount}
 use Rattle.definitions.specs.Decoding.{first, pickFirst}
+use Rattle.definitions.specs.Tried.{placeOfFirst}
 use Rattle.word_laws.proofs.PatternList.{ofWeight-shape}
 use Rattle.code_theorems.proofs.Acceptance.{magnitude-pos, patterns-number}
 use Rattle.candidate_patterns.specs.declared.Risen.{Risen}
@@ -116,16 +117,16 @@ module _ (f : List ℕ → Bool) where
       step true q = refl
       step false q = q
 
-  pub seek-place : (es : List (List ℕ)) (t : ℕ) (e : List ℕ) (u : ℕ) → seek f es t ≡ (some e, u) → (t < u) × (u ≤ t + length es)
+  pub seek-place : (es : List (List ℕ)) (t : ℕ) (e : List ℕ) (u : ℕ) → seek f es t ≡ (some e, u) → u ≡ t + placeOfFirst f es
   unfolding seek
   seek-place [] t e u q = absurd (Option·none-ne-some e (ap (λ (o : Option (List ℕ) × ℕ). o .0) q))
   seek-place (x ∷ es) t e u q = step (f x) q (λ (r : seek f es (t + 1) ≡ (some e, u)). seek-place es (t + 1) e u r)
     where
       step :
           (b : Bool) → pickSought f b x (t + 1) (seek f es (t + 1)) ≡ (some e, u)
-          → (seek f es (t + 1) ≡ (some e, u) → (t + 1 < u) × (u ≤ t + 1 + length es)) → (t < u) × (u ≤ t + suc (length es))
-      step true r ih = let z : t + 1 ≡ u = ap (λ (o : Option (List ℕ) × ℕ). o .1) r in (omega arith, omega arith)
-      step false r ih = let (a, b) = ih r in (omega arith, omega arith)
+          → (seek f es (t + 1) ≡ (some e, u) → u ≡ t + 1 + placeOfFirst f es) → u ≡ t + cond b 1 (suc (placeOfFirst f es))
+      step true r ih = sym (ap (λ (o : Option (List ℕ) × ℕ). o .1) r)
+      step false r ih = let h = ih r in omega arith
 
 -- the answers
 module _ (p : Code) (f : List ℕ → Bool) where
@@ -143,9 +144,9 @@ module _ (p : Code) (f : List ℕ → Bool) where
     pub answer-found : foundWord (p .n) (Pattern k w u) ≡ first f (patternsOf p)
     answer-found = first-of (some (wordOf (p .n) k)) u all
 
-    pub answer-counts : w ≡ weight (wordOf (p .n) k) → CountsOf p (Pattern k w u)
+    pub answer-counts : w ≡ weight (wordOf (p .n) k) → CountsOf p f (Pattern k w u)
     unfolding patternsOf
-    answer-counts e = let (a, b) = seek-place f (upTo p (p .t)) 0 (wordOf (p .n) k) u all in let c = patterns-number p in (e, omega arith, omega arith)
+    answer-counts e = (e, seek-place f (upTo p (p .t)) 0 (wordOf (p .n) k) u all ∙ zero-add (placeOfFirst f (upTo p (p .t))))
 
   pub found-weighs : (w t : ℕ) (k : Risen) (u : ℕ) → soughtAs (p .n) (Hit k u) ≡ seek f (cellsFrom p unrisen w 0) t → w ≡ weight (wordOf (p .n) k)
   found-weighs w t k u q =

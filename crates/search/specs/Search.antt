@@ -6,8 +6,9 @@ use mathlib.Core.Option.{Option, none, some}
 use Prim.Native.Nat.{ℕ, _+_, _-_, _<_, _≤_}
 use Rattle.definitions.specs.Words.{upFrom, weight}
 use Rattle.definitions.specs.Codes.{Code}
-use Rattle.definitions.specs.Patterns.{ofWeight, prefixedByEach, patterns, magnitudes, patternsOf, patternCount}
+use Rattle.definitions.specs.Patterns.{ofWeight, prefixedByEach, patterns, magnitudes, patternsOf}
 use Rattle.definitions.specs.Decoding.{first}
+use Rattle.definitions.specs.Tried.{placeOfFirst}
 use Rattle.opening.specs.Opening.{codeWith}
 use Rattle.candidate_patterns.specs.declared.Risen.{Risen}
 use Rattle.candidate_patterns.specs.declared.Asked.{Asked}
@@ -82,7 +83,7 @@ abbrev pub foundWord : ℕ → Found → Option (List ℕ)
 foundWord n (Pattern k count tried) = some (wordOf n k)
 foundWord n Nothing = none
 
--- a found pattern's count is its weight, and 1 to P patterns were tried
-abbrev pub CountsOf : Code → Found → Type 0
-CountsOf p (Pattern k count tried) = (count ≡ weight (wordOf (p .n) k)) × (1 ≤ tried) × (tried ≤ patternCount p)
-CountsOf p Nothing = Unit {0}
+-- a found pattern's count is its weight, and tried is the place of the first pattern that passes the test f
+abbrev pub CountsOf : Code → (List ℕ → Bool) → Found → Type 0
+CountsOf p f (Pattern k count tried) = (count ≡ weight (wordOf (p .n) k)) × (tried ≡ placeOfFirst f (patternsOf p))
+CountsOf p f Nothing = Unit {0}

@@ -8,7 +8,7 @@ ghost use Prim.Native.Nat.{_+_, _<_, _≤_};
 ghost use lib.ListN.{length};
 ghost use Rattle.opening.specs.Opening.{codeWith, Ready};
 ghost use Rattle.syndrome.specs.Columns.{Syndrome};
-ghost use Rattle.candidate_patterns.specs.Candidates.{SyndromeInRange, Received, Asks, testFor};
+ghost use Rattle.candidate_patterns.specs.Candidates.{SyndromeInRange, Received, Asks, testOf, testFor};
 ghost use Rattle.search_filters.specs.Filters.{LastCells};
 ghost use Rattle.search.specs.Search.{begun, atCell, withMagnitude, Reached, cellsLeft, magnitudesLeft, seek, soughtAs};
 ghost use Rattle.search.specs.Search.{firstPattern, firstFor, NoneWithOne, foundWord, CountsOf};
@@ -187,7 +187,7 @@ fn heavier(matrix: &[u8], word: &[u8], a: Asked, lighter: usize) -> Found
     requires asks { ⌜ Asks a (now matrix) (now word) ⌝ }
     requires lighter { ⌜ (1 ≤ a .p .t) × NoneWithOne a (now matrix) (now word) lighter ⌝ }
     ensures found { λ r. ⌜ foundWord (a .p .n) r ≡ firstFor a (now (matrix .entry)) (now (word .entry)) ⌝ }
-    ensures counts { λ r. ⌜ CountsOf (codeWith (a .p) (now (matrix .entry))) r ⌝ }
+    ensures counts { λ r. ⌜ CountsOf (codeWith (a .p) (now (matrix .entry))) (testFor a (now (matrix .entry)) (now (word .entry))) r ⌝ }
 {
     let p = a.p;
     let s = a.s;
@@ -227,7 +227,7 @@ pub fn first_pattern(
     requires range { ⌜ SyndromeInRange (codeWith p (now matrix)) s ⌝ }
     requires word { ⌜ (codeword ≡ true → Received p (now matrix) (now word) × Syndrome (codeWith p (now matrix)) (now word) s) ⌝ }
     ensures found { λ r. ⌜ foundWord (p .n) r ≡ firstPattern codeword (codeWith p (now (matrix .entry))) s (now (word .entry)) ⌝ }
-    ensures counts { λ r. ⌜ CountsOf (codeWith p (now (matrix .entry))) r ⌝ }
+    ensures counts { λ r. ⌜ CountsOf (codeWith p (now (matrix .entry))) (testOf codeword (codeWith p (now (matrix .entry))) s (now (word .entry))) r ⌝ }
 {
     let a = Asked { p, codeword, s };
     let most = p.t;

@@ -6,6 +6,8 @@ pub mod Remainders
 pub mod Lists
 -- the list of patterns: exact, once, in document 01's order, P long
 pub mod PatternList
+-- places in a list: of the first entry that passes a test, and how many entries of an ascending list come before one
+pub mod Places
 -- the split of the list of patterns at a cell and at a magnitude, for the two that choose them
 pub mod PatternSplits
 -- subtraction of a pattern, cell by cell

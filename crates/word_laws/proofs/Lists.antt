@@ -9,6 +9,7 @@ use lib.Dec.{T, T-not, not-T}
 use Rattle.definitions.specs.Words.{sameWord}
 use Rattle.definitions.specs.Decoding.{first, pickFirst}
 use Rattle.definitions.specs.Acceptance.{among, allDifferent}
+use Rattle.definitions.specs.Tried.{Once}
 use Rattle.definitions.proofs.Tests.{and-left, and-right, and-both, same-eq, same-refl}
 
 -- the first that passes is in the list and passes; where there is none, none passes
@@ -47,11 +48,6 @@ mem-among s (x ∷ xs) h = step (sameWord s x) refl h (λ (k : T (among s xs)). 
     step : (b : Bool) → sameWord s x ≡ b → T (elim b [ true ↦ true | false ↦ among s xs ]) → (T (among s xs) → List·Memᴰ s xs) → List·Memᴰ s (x ∷ xs)
     step true p k ih = List·Memᴰ·head (same-eq s x (subst T (sym p) tt))
     step false p k ih = List·Memᴰ·tail (ih k)
-
--- no entry stands in the list again
-abbrev pub Once : List (List ℕ) → Type 0
-Once [] = Unit {0}
-Once (x ∷ xs) = (List·Memᴰ x xs → ⊥) × Once xs
 
 -- the images of a list's entries are all different exactly when the function tells the entries apart
 module _ (f : List ℕ → List ℕ) where

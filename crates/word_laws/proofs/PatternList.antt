@@ -9,9 +9,9 @@ use native.Mathlib.Nat.{eq-or-lt-of-le, pow-zero, pow-suc, zero-add, zero-mul}
 use native.Mathlib.Omega.{arith}
 use lib.ListN.{length, length-append}
 use Rattle.definitions.specs.Words.{sumTo, upFrom, weight, EachCell}
-use Rattle.definitions.specs.Patterns.{prefixed, prefixedByEach, ofWeight, patterns, binomial, risenFrom, Lower, Before}
+use Rattle.definitions.specs.Patterns.{prefixed, prefixedByEach, ofWeight, patterns, binomial, risenFrom, Smaller, Lower, Before}
+use Rattle.definitions.specs.Tried.{Once}
 use Rattle.word_laws.proofs.Cells.{upFrom-bounds}
-use Rattle.word_laws.proofs.Lists.{Once}
 
 -- Members
 
@@ -143,6 +143,27 @@ ascending-mono Q R (e ∷ es) s h = (
   ascending-mono Q R es (λ a b m k. s a b (List·Memᴰ·tail m) (List·Memᴰ·tail k)) (h .1),
 )
 
+-- of two patterns at most one is before the other
+smaller-one-way : (a b : ℕ × ℕ) → Smaller a b → Smaller b a → ⊥
+smaller-one-way a b (inl h) (inl g) = omega arith
+smaller-one-way a b (inl h) (inr g) = omega arith
+smaller-one-way a b (inr h) (inl g) = omega arith
+smaller-one-way a b (inr h) (inr g) = omega arith
+
+lower-one-way : (x y : List (ℕ × ℕ)) → Lower x y → Lower y x → ⊥
+lower-one-way [] y h g = h
+lower-one-way (a ∷ x) [] h g = h
+lower-one-way (a ∷ x) (b ∷ y) (inl h) (inl g) = smaller-one-way a b h g
+lower-one-way (a ∷ x) (b ∷ y) (inl h) (inr g) = let s = subst (Smaller a) (g .0) h in smaller-one-way a a s s
+lower-one-way (a ∷ x) (b ∷ y) (inr h) (inl g) = let s = subst (Smaller b) (h .0) g in smaller-one-way b b s s
+lower-one-way (a ∷ x) (b ∷ y) (inr h) (inr g) = lower-one-way x y (h .1) (g .1)
+
+pub before-one-way : (e f : List ℕ) → Before e f → Before f e → ⊥
+before-one-way e f (inl h) (inl g) = omega arith
+before-one-way e f (inl h) (inr g) = omega arith
+before-one-way e f (inr h) (inl g) = omega arith
+before-one-way e f (inr h) (inr g) = lower-one-way (risenFrom 1 e) (risenFrom 1 f) (h .1) (g .1)
+
 -- each magnitude is smaller than those after it
 abbrev pub Rising : List ℕ → Type 0
 Rising [] = Unit {0}
@@ -225,19 +246,9 @@ module _ (mags : List ℕ) (pos : (v : ℕ) → List·Memᴰ v mags → 0 < v) (
   pub once-patterns : (t n : ℕ) → Once (patterns mags t n)
   once-patterns t n = go (patterns mags t n) (ascending-patterns t n)
     where
-      not-lower : (x : List (ℕ × ℕ)) → Lower x x → ⊥
-      not-lower [] h = h
-      not-lower (a ∷ x) (inl (inl h)) = omega arith
-      not-lower (a ∷ x) (inl (inr h)) = omega arith
-      not-lower (a ∷ x) (inr h) = not-lower x (h .1)
-
-      not-before : (e : List ℕ) → Before e e → ⊥
-      not-before e (inl h) = omega arith
-      not-before e (inr h) = not-lower (risenFrom 1 e) (h .1)
-
       go : (es : List (List ℕ)) → Ascending Before es → Once es
       go [] h = tt
-      go (e ∷ es) h = ((λ m. not-before e (h .0 e m)), go es (h .1))
+      go (e ∷ es) h = ((λ m. let b = h .0 e m in before-one-way e e b b), go es (h .1))
 
 pub rising-upFrom : (a k : ℕ) → Rising (upFrom a k)
 rising-upFrom a zero = tt

@@ -1,5 +1,5 @@
 use mathlib.Core.Path.{_≡_, refl, sym, ap, subst, _∙_}
-use mathlib.Core.Bool.{true}
+use mathlib.Core.Bool.{Bool, true}
 use mathlib.Core.List.{List}
 use Prim.Native.Nat.{ℕ}
 use lib.Dec.{T}
@@ -16,13 +16,14 @@ use Rattle.definitions.proofs.Tests.{below-each}
 use Rattle.definitions.specs.CodeOperations.{decodeCode}
 use Rattle.opening.specs.Opening.{codeWith, part}
 use Rattle.opening.specs.declared.Parameters.{Parameters}
-use Rattle.candidate_patterns.specs.Candidates.{wordOf, Received}
-use Rattle.candidate_patterns.proofs.Tests.{syndrome-range, first-fits}
-use Rattle.search.specs.Search.{foundWord}
-use Rattle.code_decoding.proofs.Decoding.{when-found, when-nothing, tried-within}
+use Rattle.candidate_patterns.specs.Candidates.{wordOf, testOf, Received}
+use Rattle.candidate_patterns.proofs.Tests.{syndrome-range, tests-fit}
+use Rattle.search.specs.Search.{foundWord, CountsOf}
+use Rattle.code_decoding.proofs.Decoding.{when-found, when-nothing, tried-first}
+use Rattle.answers.specs.declared.Refusal.the-variants.{WrongBuffer, LevelTooLarge, NoCodewordInReach}
 use Rattle.answers.proofs.Beginning.{lengths}
 use Rattle.code_operations.proofs.Refusals.{Opens, opens-as, not-opened, buffer-refused, begun, decodeRest}
-use Rattle.code_decoding.proofs.Clauses.{decode-clauses}
+use Rattle.code_decoding.proofs.Clauses.{refused-clauses, count-clauses}
 use Rattle.code_decoding.proofs.decode.Statement.{statement}
 use Rattle.code_decoding.proofs.decode.Tie as tie
 
@@ -102,12 +103,20 @@ searched c = c .before .before .before
 abbrev searched-for : tie.After-first-pattern → Code
 searched-for c = code (below (searched c))
 
+-- what is found passes the test of decoding, and its place is by that test
+test : (c : tie.After-first-pattern)
+    → _≡_ {A = List ℕ → Bool} (testOf true (searched-for c) (c .before .syndrome .result) (word (start (below (searched c)))))
+    (fits (searched-for c) (word (start (below (searched c)))))
+test c = tests-fit (searched-for c) (word (start (below (searched c)))) (c .before .syndrome .result) (c .before .syndrome .ensures)
+
 found : (c : tie.After-first-pattern) → foundWord (searched-for c .n) (c .first-pattern .result)
     ≡ first (fits (searched-for c) (word (start (below (searched c))))) (patternsOf (searched-for c))
 found c =
-    let y = word (start (below (searched c))) in
-    c .first-pattern .ensures .0
-    ∙ first-fits (searched-for c) y (c .before .syndrome .result) (c .before .syndrome .ensures) (patternsOf (searched-for c))
+    c .first-pattern .ensures .0 ∙ ap (λ (f : List ℕ → Bool). first f (patternsOf (searched-for c))) (test c)
+
+counts : (c : tie.After-first-pattern) → CountsOf (searched-for c) (fits (searched-for c) (word (start (below (searched c))))) (c .first-pattern .result)
+counts c =
+    subst (λ (f : List ℕ → Bool). CountsOf (searched-for c) f (c .first-pattern .result)) (test c) (c .first-pattern .ensures .1)
 
 open-requires : tie.Need-open-requires
 open-requires c κs = search needs
@@ -126,8 +135,8 @@ unfolding decodeCode
 returns c =
     let s = c .before .before .before .before .before .before .before in
     let o = c .before .before .before .«open» in
-    decode-clauses (bytes s) (word s) (lent s)
-    (not-opened (bytes s) (word s) (lent s) (decodeRest (word s)) (o .result) (o .ensures .0) (c .why-refused .result) (c .why-refused .ensures)) tt
+    refused-clauses (bytes s) (word s) (lent s) (lent s) (c .why-refused .result)
+    (not-opened (bytes s) (word s) (lent s) (decodeRest (word s)) (o .result) (o .ensures .0) (c .why-refused .result) (c .why-refused .ensures))
 
 buffers-fit-requires : tie.Need-buffers-fit-requires
 buffers-fit-requires c κs = search needs
@@ -137,9 +146,9 @@ unfolding decodeCode
 returns-2 c =
     let k = c .before .before in
     let s = start k in
-    decode-clauses (bytes s) (word s) (lent s)
+    refused-clauses (bytes s) (word s) (lent s) (lent s) WrongBuffer
     (buffer-refused (bytes s) (word s) (lent s) (decodeRest (word s)) (parameters k) (from k) (to k) (opens k)
-    (c .before .buffers-fit .result) (c .before .buffers-fit .ensures) (c .if1 .taken)) tt
+    (c .before .buffers-fit .result) (c .before .buffers-fit .ensures) (c .if1 .taken))
 
 all-below-requires : tie.Need-all-below-requires
 all-below-requires c κs = search needs
@@ -147,8 +156,8 @@ all-below-requires c κs = search needs
 returns-3 : tie.Need-returns-3
 returns-3 c =
     let s = start (c .before .before .before .before) in
-    decode-clauses (bytes s) (word s) (lent s)
-    ((let e = sym (c .before .all-below .ensures) ∙ not-true (c .before .all-below .result) (c .if2 .taken) in rw e) ∙ left (c .before .before)) tt
+    refused-clauses (bytes s) (word s) (lent s) (lent s) LevelTooLarge
+    ((let e = sym (c .before .all-below .ensures) ∙ not-true (c .before .all-below .result) (c .if2 .taken) in rw e) ∙ left (c .before .before))
 
 sub-matrix : tie.Need-sub-matrix
 sub-matrix c = opens (below c) .place .ordered
@@ -191,21 +200,20 @@ returns-4 c =
     let s = start k in
     let f = c .before .before .before .before .before .f .given in
     let stored = c .before .before .store-decoded in
-    decode-clauses (bytes s) (word s) (lent s)
+    count-clauses (bytes s) (word s) (lent s) (stored .last .1 .1 .0) (f .0 .1 .0) (f .0 .1 .1 .0)
     (when-found (code k) (word s) (lent s) (g .first-pattern .result) (found g) (f .0 .0) (f .0 .1 .0) (f .0 .1 .1 .0) (stored .last .1 .1 .0) (f .1)
-    (g .first-pattern .ensures .1)
+    (counts g)
     (stored .ensures ∙ ap (λ (n : ℕ). subtract (word s) (wordOf n (f .0 .0))) (long (d .before .before) .0))
     ∙ decoding d)
-    (tried-within (bytes s) (code k) (g .first-pattern .result) (f .0 .0) (f .0 .1 .0) (f .0 .1 .1 .0) (opens k .code) (f .1)
-    (g .first-pattern .ensures .1))
+    (tried-first (bytes s) (code k) (word s) (g .first-pattern .result) (f .0 .0) (f .0 .1 .0) (f .0 .1 .1 .0) (opens k .code) (f .1) (counts g))
 
 returns-5 : tie.Need-returns-5
 returns-5 c =
     let g = c .before .before in
     let k = below (searched g) in
     let s = start k in
-    decode-clauses (bytes s) (word s) (lent s)
-    (when-nothing (code k) (word s) (lent s) (g .first-pattern .result) (found g) (c .enum-told2 .given .1) ∙ decoding (searched g)) tt
+    refused-clauses (bytes s) (word s) (lent s) (lent s) NoCodewordInReach
+    (when-nothing (code k) (word s) (lent s) (g .first-pattern .result) (found g) (c .enum-told2 .given .1) ∙ decoding (searched g))
 
 pub decode-spec : {M : Type 1} → statement M
 decode-spec =

@@ -1,4 +1,3 @@
-use mathlib.Core.Path.{refl}
 use borrow.Author.Needs.{needs}
 use Rattle.numbered_answers.proofs.Refused.{numbered}
 use Rattle.numbered_answers.proofs.of_read.Statement.{statement}
@@ -22,7 +21,8 @@ returns c = search needs
 returns-2 : tie.Need-returns-2
 returns-2 c =
     let a = c .before .before .before .a2 .given in
-    rw (a .1) (numbered (a .0 .0) (c .before .refusal-number .ensures) (c .plane-of .ensures), refl)
+    let h = numbered (a .0 .0) (c .before .refusal-number .ensures) (c .plane-of .ensures) in
+    rw (a .1) (h, h .count-is)
 
 pub of-read-spec : {M : Type 1} → statement M
 of-read-spec =
