@@ -1,9 +1,8 @@
 -- The test of a pattern: by what its choices leave of the syndrome, and for a received word the definitions of decoding.
-use mathlib.Core.Path.{_≡_, refl, sym, ap, _∙_, subst}
+use mathlib.Core.Path.{_≡_, sym, ap, _∙_, subst}
 use mathlib.Core.Bool.{Bool, true, false, _&&_}
 use mathlib.Core.List.{List, map}
-use mathlib.Core.Option.{Option}
-use Prim.Native.Nat.{ℕ, _+_, _*_, _%_, _≤_, _<_}
+use Prim.Native.Nat.{ℕ, _+_, _*_, _%_, _<_}
 use native.Mathlib.Nat.{zero-mul, zero-mod, add-zero}
 use native.Mathlib.Decide.{decLt}
 use native.Mathlib.Omega.{arith}
@@ -22,7 +21,7 @@ use Rattle.syndrome.specs.Columns.{column, Syndrome}
 use Rattle.syndrome.proofs.Columns.{entry-past}
 use Rattle.candidate_patterns.specs.declared.Risen.{Risen}
 use Rattle.candidate_patterns.specs.declared.Asked.{Asked}
-use Rattle.candidate_patterns.specs.Candidates.{magnitudeOf, magnitudeAt, wordOf, added, hasSyndrome, testOf, testFor}
+use Rattle.candidate_patterns.specs.Candidates.{magnitudeAt, wordOf, added, hasSyndrome, testOf, testFor}
 use Rattle.candidate_patterns.specs.Candidates.{SyndromeInRange, Asks, Chosen, Remains}
 use Rattle.candidate_patterns.proofs.Choices.{of-none, added-at, length-word}
 use Rattle.candidate_patterns.proofs.Syndromes.{Raised, column-hit, column-only}

@@ -16,10 +16,10 @@ use Rattle.code_operations.specs.CodeClauses.{WhereCodeReads, WhereCodeAccepted
 use Rattle.code_theorems.proofs.Demands.{decode-demand, decode-some, decode-keeps}
 use Rattle.code_theorems.proofs.Tried.{tried-is-place}
 
-module _ (b y lent out : List ℕ) where
-  -- the clauses of decode, of its answer
-  abbrev Clauses : ReadAnswer → Type 0
-  Clauses a =
+module _ (b y lent : List ℕ) where
+  -- the clauses of decode, of its answer and its buffer at exit
+  abbrev Clauses : ReadAnswer → List ℕ → Type 0
+  Clauses a out =
       (leaves (readAs a) out ≡ decodeCode b y lent)
       × ((triedAs a ≡ triedCode b y lent)
       × (TriedIsPlace (codeOf b) y (triedAs a) out
@@ -27,8 +27,8 @@ module _ (b y lent out : List ℕ) where
       × (WhereCodeReads b y lent (λ p. SomeCodeword (ofCode p) y (readAs a) out)
       × WhereCodeAccepted b y lent (λ p. KeepsMessages (ofCode p) y (readAs a) out)))))
 
-  clauses : (a : ReadAnswer) → leaves (readAs a) out ≡ decodeCode b y lent → triedAs a ≡ triedCode b y lent → Clauses a
-  clauses a e t =
+  clauses : (a : ReadAnswer) (out : List ℕ) → leaves (readAs a) out ≡ decodeCode b y lent → triedAs a ≡ triedCode b y lent → Clauses a out
+  clauses a out e t =
       let r = decodeCode b y lent in (
         e,
         (
@@ -47,13 +47,14 @@ module _ (b y lent out : List ℕ) where
         ),
       )
 
-  pub refused-clauses : (x : Refusal) → leaves (refusedAs x) out ≡ decodeCode b y lent → Clauses (read.Refused x)
+  pub refused-clauses : (x : Refusal) → leaves (refusedAs x) lent ≡ decodeCode b y lent → Clauses (read.Refused x) lent
   unfolding triedCode
   refused-clauses x e =
-      clauses (read.Refused x) e (sym (after-refused (decodeCode b y lent .answer) x _ (sym (ap (λ (r : Result ℕ). r .answer) e))))
+      clauses (read.Refused x) lent e (sym (after-refused (decodeCode b y lent .answer) x _ (sym (ap (λ (r : Result ℕ). r .answer) e))))
 
-  pub count-clauses : (count u : ℕ) → leaves (given count) out ≡ decodeCode b y lent → u ≡ tried (codeOf b) y → Clauses (read.Count count u)
+  pub count-clauses :
+      (count u : ℕ) (out : List ℕ) → leaves (given count) out ≡ decodeCode b y lent → u ≡ tried (codeOf b) y → Clauses (read.Count count u) out
   unfolding triedCode
-  count-clauses count u e t =
-      clauses (read.Count count u) e
+  count-clauses count u out e t =
+      clauses (read.Count count u) out e
       (rw t (ap (λ (a : Answer ℕ). after a λ _. given (tried (codeOf b) y)) (ap (λ (r : Result ℕ). r .answer) e)))

@@ -1,6 +1,5 @@
 -- Decoding with the pattern that the search found: its subtraction cell by cell, and its count.
 use mathlib.Core.Path.{_≡_, sym, ap, ap₂, subst, _∙_}
-use mathlib.Core.Bool.{true}
 use mathlib.Core.List.{List}
 use mathlib.Core.Option.{some, none}
 use Prim.Native.Nat.{ℕ, _-_, _<_}

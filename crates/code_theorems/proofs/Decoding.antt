@@ -87,16 +87,21 @@ module _ (p : Code) (y : List ℕ) (long : length y ≡ p .n) where
       let hp = in-pattern p e m in
       ((fits-codeword e f, fits-reach e hp f), fits-distance e hp f)
 
-  pub decode-only : (k : ℕ) (c : List ℕ) → decode p y ≡ given (k, c) → WithinReach (ofCode p) y c × (k ≡ distance c y)
+  -- and what is given back was found
+  pub given-found : (k : ℕ) (c : List ℕ) → decode p y ≡ given (k, c)
+      → (e : List ℕ) × (first (fits p y) (patternsOf p) ≡ some e) × (weight e ≡ k) × (subtract y e ≡ c)
   unfolding decode
-  decode-only k c q = step (first (fits p y) (patternsOf p)) refl q
+  given-found k c q = step (first (fits p y) (patternsOf p)) q
     where
-      step : (o : Option (List ℕ)) → first (fits p y) (patternsOf p) ≡ o → decodedBy y o ≡ given (k, c) → WithinReach (ofCode p) y c × (k ≡ distance c y)
-      step none f e = let z : _≡_ {A = ℕ} 0 1 = cc in absurd (omega arith)
-      step (some e) f g =
-          let (h, w) = found-within e f in
-          let (i, s) = given-pair (weight e) k (subtract y e) c g in
-          (subst (WithinReach (ofCode p) y) s h, sym i ∙ w ∙ ap (λ (d : List ℕ). distance d y) s)
+      step : (o : Option (List ℕ)) → decodedBy y o ≡ given (k, c) → (e : List ℕ) × (o ≡ some e) × (weight e ≡ k) × (subtract y e ≡ c)
+      step none g = let z : _≡_ {A = ℕ} 0 1 = cc in absurd (omega arith)
+      step (some e) g = let (i, s) = given-pair (weight e) k (subtract y e) c g in (e, refl, i, s)
+
+  pub decode-only : (k : ℕ) (c : List ℕ) → decode p y ≡ given (k, c) → WithinReach (ofCode p) y c × (k ≡ distance c y)
+  decode-only k c q =
+      let (e, f, i, s) = given-found k c q in
+      let (h, w) = found-within e f in
+      (subst (WithinReach (ofCode p) y) s h, sym i ∙ w ∙ ap (λ (d : List ℕ). distance d y) s)
 
   pub decode-other : ((c : List ℕ) → WithinReach (ofCode p) y c → ⊥) → decode p y ≡ refused 11
   unfolding decode

@@ -2,15 +2,15 @@
 use mathlib.Core.Path.{_≡_, refl, sym, ap, _∙_, subst}
 use mathlib.Core.Logic.{inl, inr}
 use mathlib.Core.List.{List, [], _∷_, List·Memᴰ, List·Memᴰ·head}
-use mathlib.Core.Option.{Option, none, some}
+use mathlib.Core.Option.{some}
 use Prim.Native.Nat.{ℕ, zero, suc, _-_, _≤_}
 use native.Mathlib.Omega.{arith}
 use lib.ListN.{length}
-use Rattle.definitions.specs.Words.{sameWord, subtract, weight}
-use Rattle.definitions.specs.Answers.{Answer, given}
+use Rattle.definitions.specs.Words.{subtract, weight}
+use Rattle.definitions.specs.Answers.{given}
 use Rattle.definitions.specs.Codes.{Code, codeOf}
 use Rattle.definitions.specs.Patterns.{patternsOf, Pattern, risenFrom, Lower, Before}
-use Rattle.definitions.specs.Decoding.{first, fits, decodedBy, decode}
+use Rattle.definitions.specs.Decoding.{first, fits, decode}
 use Rattle.definitions.specs.CodeOperations.{openCode, decodeCode}
 use Rattle.definitions.specs.Tried.{placeOf, tried, triedCode, PatternsBefore, GivenAt, TriedIsPlace}
 use Rattle.word_laws.proofs.Lists.{first-some}
@@ -18,8 +18,8 @@ use Rattle.word_laws.proofs.PatternList.{before-one-way}
 use Rattle.word_laws.proofs.Places.{place-low, place-high, place-found, earlier, once-shorter}
 use Rattle.word_laws.proofs.Subtraction.{subtract-back}
 use Rattle.code_theorems.proofs.Acceptance.{pattern-in, in-pattern, patterns-ascend, patterns-number}
-use Rattle.code_theorems.proofs.Deciding.{given-pair, result-given}
-use Rattle.code_theorems.proofs.Decoding.{fits-above}
+use Rattle.code_theorems.proofs.Deciding.{result-given}
+use Rattle.code_theorems.proofs.Decoding.{fits-above, given-found}
 use Rattle.code_theorems.proofs.Refusals.{after-given, given-read}
 use Rattle.code_theorems.proofs.Opened.{opened}
 use Rattle.code_theorems.proofs.Demands.{decodes}
@@ -85,12 +85,7 @@ module _ (p : Code) (y : List ℕ) (long : length y ≡ p .n) where
       }
 
   given-at : (k : ℕ) (x : List ℕ) → decode p y ≡ given (k, x) → GivenAt p y x (tried p y)
-  unfolding decode
-  given-at k x q = step (first (fits p y) (patternsOf p)) refl q
-    where
-      step : (o : Option (List ℕ)) → first (fits p y) (patternsOf p) ≡ o → decodedBy y o ≡ given (k, x) → GivenAt p y x (tried p y)
-      step none f e = let z : _≡_ {A = ℕ} 0 1 = cc in absurd (omega arith)
-      step (some e) f g = subst (λ (x : List ℕ). GivenAt p y x (tried p y)) (given-pair (weight e) k (subtract y e) x g .1) (found-at e f)
+  given-at k x q = let (e, f, _, s) = given-found p y long k x q in subst (λ (z : List ℕ). GivenAt p y z (tried p y)) s (found-at e f)
 
 -- for every description, word and buffer
 pub tried-is-place : (b y out : List ℕ) → TriedIsPlace (codeOf b) y (triedCode b y out) (decodeCode b y out .out)

@@ -1,14 +1,14 @@
 -- The numbers of a line are small: what is given back has at most 64 cells, and its levels are below 64.
 use mathlib.Core.Path.{_≡_, refl, sym, ap, subst}
-use mathlib.Core.Bool.{Bool, true, false, _&&_, not, cond}
+use mathlib.Core.Bool.{Bool, true, false, cond}
 use mathlib.Core.List.{List, [], _∷_}
 use Prim.Native.Nat.{ℕ, suc, _+_, _≤_, _<_}
 use native.Mathlib.Omega.{arith}
-use lib.Dec.{eqb, ltb, eqb→eq}
+use lib.Dec.{eqb, ltb}
 use lib.ListN.{length}
 use borrow.Author.Tests.{ltb-false}
-use Rattle.definitions.specs.Words.{at, distance, allBelow, EachCell}
-use Rattle.definitions.specs.Answers.{Answer, given, refused, refusedAt, Result, refuse_when_else_, result, after}
+use Rattle.definitions.specs.Words.{at, distance, EachCell}
+use Rattle.definitions.specs.Answers.{Answer, given, refused, refusedAt, Result}
 use Rattle.definitions.specs.Codes.{Code}
 use Rattle.definitions.specs.Decoding.{decode}
 use Rattle.definitions.specs.CodeOperations.{openCode, testCode, decodeCode}
@@ -16,7 +16,6 @@ use Rattle.definitions.specs.Stacks.{levels}
 use Rattle.definitions.specs.StackDecoding.{decodeWord}
 use Rattle.definitions.specs.StackOperations.{openStack, testStack, decodeStack}
 use Rattle.definitions.specs.Images.{bodyOf, referenceOf, decodeRow}
-use Rattle.definitions.proofs.Tests.{and-left, and-right, below-each}
 use Rattle.word_laws.proofs.Cells.{each-map}
 use Rattle.code_theorems.proofs.Refusals.{not-refused, after-given, given-read}
 use Rattle.code_theorems.proofs.Opened.{opened}

@@ -5,13 +5,12 @@ use mathlib.Core.List.{List}
 use mathlib.Core.Option.{Option, none, some}
 use Prim.Native.Nat.{ℕ, zero, suc, _≤_}
 use native.Mathlib.Omega.{arith}
-use Rattle.definitions.specs.Answers.{Answer, given, refused, refusedAt, Result, number}
+use Rattle.definitions.specs.Answers.{Answer, given, refused, Result, number}
 use Rattle.definitions.specs.Codes.{Code}
 use Rattle.definitions.specs.PackingOperations.{Packed, Unpacked}
 use Rattle.definitions.specs.Demands.{Coding, Tested, OneCodeword, Recovered, DistanceDecides, SomeCodeword}
 use Rattle.definitions.specs.Demands.{GivenWithinReach, KeepsMessages}
-use Rattle.answers.specs.Answering.{refusalNumber, refusalPlane, withPlane, refusedAs, testedAs, writtenAs, readAs, triedAs, outcomeAs, leaves}
-use Rattle.answers.specs.declared.Refusal.{Refusal}
+use Rattle.answers.specs.Answering.{refusalNumber, refusalPlane, withPlane, testedAs, writtenAs, readAs, triedAs, outcomeAs, leaves}
 use Rattle.answers.specs.declared.TestAnswer.{TestAnswer}
 use Rattle.answers.specs.declared.TestAnswer.the-variants as test
 use Rattle.answers.specs.declared.WriteAnswer.{WriteAnswer}

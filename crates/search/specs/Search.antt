@@ -3,7 +3,7 @@ use mathlib.Core.Path.{_≡_}
 use mathlib.Core.Bool.{Bool, true, false}
 use mathlib.Core.List.{List, [], _∷_, _++_, map}
 use mathlib.Core.Option.{Option, none, some}
-use Prim.Native.Nat.{ℕ, _+_, _-_, _<_, _≤_}
+use Prim.Native.Nat.{ℕ, _+_, _-_, _≤_}
 use Rattle.definitions.specs.Words.{upFrom, weight}
 use Rattle.definitions.specs.Codes.{Code}
 use Rattle.definitions.specs.Patterns.{ofWeight, prefixedByEach, patterns, magnitudes, patternsOf}

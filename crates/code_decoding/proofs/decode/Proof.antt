@@ -1,4 +1,4 @@
-use mathlib.Core.Path.{_≡_, refl, sym, ap, subst, _∙_}
+use mathlib.Core.Path.{_≡_, sym, ap, subst, _∙_}
 use mathlib.Core.Bool.{Bool, true}
 use mathlib.Core.List.{List}
 use Prim.Native.Nat.{ℕ}
@@ -135,7 +135,7 @@ unfolding decodeCode
 returns c =
     let s = c .before .before .before .before .before .before .before in
     let o = c .before .before .before .«open» in
-    refused-clauses (bytes s) (word s) (lent s) (lent s) (c .why-refused .result)
+    refused-clauses (bytes s) (word s) (lent s) (c .why-refused .result)
     (not-opened (bytes s) (word s) (lent s) (decodeRest (word s)) (o .result) (o .ensures .0) (c .why-refused .result) (c .why-refused .ensures))
 
 buffers-fit-requires : tie.Need-buffers-fit-requires
@@ -146,7 +146,7 @@ unfolding decodeCode
 returns-2 c =
     let k = c .before .before in
     let s = start k in
-    refused-clauses (bytes s) (word s) (lent s) (lent s) WrongBuffer
+    refused-clauses (bytes s) (word s) (lent s) WrongBuffer
     (buffer-refused (bytes s) (word s) (lent s) (decodeRest (word s)) (parameters k) (from k) (to k) (opens k)
     (c .before .buffers-fit .result) (c .before .buffers-fit .ensures) (c .if1 .taken))
 
@@ -156,7 +156,7 @@ all-below-requires c κs = search needs
 returns-3 : tie.Need-returns-3
 returns-3 c =
     let s = start (c .before .before .before .before) in
-    refused-clauses (bytes s) (word s) (lent s) (lent s) LevelTooLarge
+    refused-clauses (bytes s) (word s) (lent s) LevelTooLarge
     ((let e = sym (c .before .all-below .ensures) ∙ not-true (c .before .all-below .result) (c .if2 .taken) in rw e) ∙ left (c .before .before))
 
 sub-matrix : tie.Need-sub-matrix
@@ -200,7 +200,7 @@ returns-4 c =
     let s = start k in
     let f = c .before .before .before .before .before .f .given in
     let stored = c .before .before .store-decoded in
-    count-clauses (bytes s) (word s) (lent s) (stored .last .1 .1 .0) (f .0 .1 .0) (f .0 .1 .1 .0)
+    count-clauses (bytes s) (word s) (lent s) (f .0 .1 .0) (f .0 .1 .1 .0) (stored .last .1 .1 .0)
     (when-found (code k) (word s) (lent s) (g .first-pattern .result) (found g) (f .0 .0) (f .0 .1 .0) (f .0 .1 .1 .0) (stored .last .1 .1 .0) (f .1)
     (counts g)
     (stored .ensures ∙ ap (λ (n : ℕ). subtract (word s) (wordOf n (f .0 .0))) (long (d .before .before) .0))
@@ -212,7 +212,7 @@ returns-5 c =
     let g = c .before .before in
     let k = below (searched g) in
     let s = start k in
-    refused-clauses (bytes s) (word s) (lent s) (lent s) NoCodewordInReach
+    refused-clauses (bytes s) (word s) (lent s) NoCodewordInReach
     (when-nothing (code k) (word s) (lent s) (g .first-pattern .result) (found g) (c .enum-told2 .given .1) ∙ decoding (searched g))
 
 pub decode-spec : {M : Type 1} → statement M
