@@ -40,7 +40,7 @@ abbrev pub Once : List (List ℕ) → Type 0
 Once [] = Unit {0}
 Once (x ∷ xs) = (List·Memᴰ x xs → ⊥) × Once xs
 
--- in words of the order alone: k patterns come before e, namely those of a list that has each of them once and nothing else
+-- in words of the order alone: k patterns come before e, which are those of some list that has each of them once and nothing else
 pub record PatternsBefore (p : Code) (e : List ℕ) (k : ℕ) : Type 0 where
   pub list : List (List ℕ)
   pub exactly : (f : List ℕ) → List·Memᴰ f list ↔ (Pattern p f × Before f e)
@@ -55,6 +55,7 @@ pub record GivenAt (p : Code) (y x : List ℕ) (k : ℕ) : Type 0 where
   pub only : (e : List ℕ) → GivenPattern p y x e → e ≡ pattern
   -- "exactly the place, counted from 1, of the given pattern in document 01's order"
   pub place : k ≡ placeOf p pattern
+  -- k - 1 patterns come before it
   pub before : PatternsBefore p pattern (k - 1)
   pub least : 1 ≤ k
   pub most : k ≤ patternCount p
