@@ -27,7 +27,7 @@ pub struct Tester {
     read: usize,
     beyond: usize,
     ways: BTreeMap<&'static str, usize>,
-    /// The figures of `tried` that came up.
+    /// The figures of `tried` that came up with a count.
     tried: BTreeSet<usize>,
 }
 
@@ -67,7 +67,7 @@ impl Tester {
         let label = label(case, &expected.answer);
         self.count_reading(case.operation, &label);
         self.coverage.note(case.operation, &label);
-        self.tried.insert(expected.answer.tried);
+        self.tried.extend(Some(expected.answer.tried).filter(|&tried| tried > 0));
         label
     }
 
