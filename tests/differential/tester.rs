@@ -67,7 +67,9 @@ impl Tester {
         let label = label(case, &expected.answer);
         self.count_reading(case.operation, &label);
         self.coverage.note(case.operation, &label);
-        self.tried.extend(Some(expected.answer.tried).filter(|&tried| tried > 0));
+        if expected.answer.tried > 0 {
+            self.tried.insert(expected.answer.tried);
+        }
         label
     }
 

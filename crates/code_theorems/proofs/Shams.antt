@@ -1,9 +1,9 @@
 -- Operations on codes that answer wrongly do not meet the demands. Witnesses: R, the words 4 5 3 2 1 and
 -- 0 1 1 1 1, and the message 3 2 1 0 0.
-use mathlib.Core.Path.{_≡_, refl, sym, ap, _∙_}
+use mathlib.Core.Path.{_≡_, refl, sym, ap, _∙_, subst}
 use mathlib.Core.List.{List, [], _∷_}
 use mathlib.Core.Option.{some}
-use Prim.Native.Nat.{ℕ}
+use Prim.Native.Nat.{ℕ, _-_, _≤_}
 use native.Mathlib.Omega.{arith}
 use lib.Dec.{lit≤}
 use Rattle.definitions.specs.Words.{subtract, weight}
@@ -16,7 +16,7 @@ use Rattle.definitions.specs.Decoding.{sameSyndrome, fits, decode}
 use Rattle.definitions.specs.Messages.{message}
 use Rattle.definitions.specs.CodeOperations.{inRange, openCode, decodeCode}
 use Rattle.definitions.specs.Demands.{ofCode, Tested, OneCodeword, Recovered, DistanceDecides, SomeCodeword, KeepsMessages, WithinReach}
-use Rattle.definitions.specs.Tried.{placeOf, PatternsBefore, GivenAt, TriedIsPlace}
+use Rattle.definitions.specs.Tried.{placeOf, GivenPattern, PatternsBefore, GivenAt, TriedIsPlace}
 use Rattle.definitions.specs.Examples.{R, lent, zeros}
 use Rattle.word_laws.proofs.Subtraction.{subtract-back}
 use Rattle.code_theorems.proofs.Codewords.{test-codeword}
@@ -92,24 +92,43 @@ other-number k out other h =
 pub invented-count : (k : ℕ) (out : List ℕ) → (k ≡ 2 → ⊥) → DistanceDecides (ofCode code) read (given k) out → ⊥
 invented-count k out other h = let e : _≡_ {A = Answer ℕ} (given k) (given 2) = h .count written near in other (cc)
 
+-- the pattern by which 4 5 3 2 1 is given back
+abbrev risen : List ℕ
+risen = 1 ∷ 0 ∷ 0 ∷ 1 ∷ 0 ∷ []
+
+risen-pattern : Pattern code risen
+unfolding code R
+risen-pattern = record { long = refl; each = omega arith; few = lit≤ tt }
+
+risen-given : GivenPattern code read written risen
+risen-given = record { isPattern = risen-pattern; nowhereAbove = omega arith; leaves = refl }
+
+-- a reader that reports another number of patterns tried: 1 0 0 1 0 is at place 9
+pub other-place : (k : ℕ) → (k ≡ 9 → ⊥) → TriedIsPlace code read (given k) written → ⊥
+unfolding code R placeOf patternsOf
+other-place k other h = let g = h k refl in other (g .place ∙ ap (placeOf code) (sym (g .only risen risen-given)))
+
+-- and, in words of the order alone, another number of patterns before it than 8
+pub other-number-before : (k : ℕ) → (k - 1 ≡ 8 → ⊥) → TriedIsPlace code read (given k) written → ⊥
+unfolding code R placeOf patternsOf
+other-number-before k other h =
+    let g = h k refl in
+    let b = subst (λ (e : List ℕ). PatternsBefore code e (k - 1)) (sym (g .only risen risen-given)) (g .before) in
+    other (one-number code risen (k - 1) 8 b (patterns-before code risen risen-pattern))
+
 -- the pattern by which a word y is given back as x
 given-pattern : (y x : List ℕ) (k : ℕ) (h : GivenAt code y x k) → h .pattern ≡ subtract y x
 given-pattern y x k h =
     sym (subtract-back y (h .pattern) (h .subtracted .nowhereAbove)) ∙ ap (subtract y) (h .subtracted .leaves)
 
--- a reader that reports another number of patterns tried: 1 0 0 1 0 is at place 9
-pub other-place : (k : ℕ) → (k ≡ 9 → ⊥) → TriedIsPlace code read (given k) written → ⊥
-unfolding code R placeOf patternsOf
-other-place k other h = let g = h k refl in other (g .place ∙ ap (placeOf code) (given-pattern read written k g))
-
--- and another number of patterns before it than 8
-pub other-number-before : (k : ℕ) → (k ≡ 8 → ⊥) → PatternsBefore code (subtract read written) k → ⊥
-unfolding code R placeOf patternsOf
-other-number-before k other h =
-    other (one-number code (subtract read written) k 8 h (patterns-before code (subtract read written) risen))
-  where
-    risen : Pattern code (subtract read written)
-    risen = record { long = refl; each = omega arith; few = lit≤ tt }
+-- a reader that lowers three cells, where a pattern of R raises at most two
+pub no-pattern : (k : ℕ) → TriedIsPlace code (1 ∷ 1 ∷ 1 ∷ 0 ∷ 0 ∷ []) (given k) (zeros 5) → ⊥
+unfolding code R
+no-pattern k h =
+    let g = h k refl in
+    let w : weight (g .pattern) ≡ 3 = ap weight (given-pattern (1 ∷ 1 ∷ 1 ∷ 0 ∷ 0 ∷ []) (zeros 5) k g) in
+    let f : weight (g .pattern) ≤ 2 = g .subtracted .isPattern .few in
+    omega arith
 
 -- a reader that reports another number than 1 for the empty pattern; 0 patterns tried; more than R's 16
 pub empty-not-1 : (k : ℕ) → (k ≡ 1 → ⊥) → TriedIsPlace code written (given k) written → ⊥
