@@ -6,6 +6,8 @@ pub enum Operation {
     Test,
     Decode,
     DecodeStack,
+    MessageOfNumber,
+    NumberOfMessage,
 }
 
 pub struct Case {
@@ -14,7 +16,7 @@ pub struct Case {
     pub aim: f64,
     pub operation: Operation,
     pub body: Vec<u8>,
-    /// Empty for a test.
+    /// Empty for a test; for numbers the message.
     pub word: Vec<u8>,
 }
 
@@ -29,6 +31,14 @@ impl Case {
 
     fn decode_stack(name: &str, aim: f64, body: &[u8], word: Vec<u8>) -> Case {
         Case { name: format!("decode digit planes, {name}"), aim, operation: Operation::DecodeStack, body: body.to_vec(), word }
+    }
+
+    fn message_of_number(name: &str, aim: f64, body: &[u8], word: Vec<u8>) -> Case {
+        Case { name: format!("message of number, {name}"), aim, operation: Operation::MessageOfNumber, body: body.to_vec(), word }
+    }
+
+    fn number_of_message(name: &str, aim: f64, body: &[u8], word: Vec<u8>) -> Case {
+        Case { name: format!("number of message, {name}"), aim, operation: Operation::NumberOfMessage, body: body.to_vec(), word }
     }
 }
 
@@ -205,5 +215,15 @@ pub fn all() -> Vec<Case> {
         Case::test("n 45 r 7 M 64 l 2 t 2, P 4051, keys in one bucket", 0.25, shallow),
         Case::test("n 45 r 8 M 64 l 2 t 2, P 4051, the same, low bits equal", 0.25, deep),
     ]);
+    let transponder = [6, 2, 6, 3, 1, 1, 1, 1, 2, 2, 1, 2, 1, 2];
+    // Of two and of three levels the most cells whose messages have numbers, with the last of these.
+    for (name, body, message) in [
+        ("transponder, n 6 q 6", &transponder[..], vec![1, 0, 2, 4, 1, 0]),
+        ("n 63 q 2", &[63, 0, 2, 2, 1, 0], vec![1; 63]),
+        ("n 39 q 3", &[39, 0, 3, 3, 1, 0], vec![2; 39]),
+    ] {
+        cases.push(Case::message_of_number(name, 1.0, body, message.clone()));
+        cases.push(Case::number_of_message(name, 1.0, body, message));
+    }
     cases
 }

@@ -4,7 +4,7 @@
 
 mod cases;
 #[path = "../bindings/rust/fingerkerf.rs"]
-#[allow(dead_code)] // The benchmark calls five of the operations.
+#[allow(dead_code)] // The benchmark calls seven of the operations.
 mod fingerkerf;
 mod images;
 mod plain;
@@ -56,6 +56,36 @@ fn decode_times(
     ])
 }
 
+fn message_of_number_times(case: &Case) -> [f64; 2] {
+    let (body, message) = (&case.body[..], &case.word[..]);
+    let value = plain::number_of_message(body, message).expect("a message that has a number");
+    let (mut ours_out, mut plain_out) = (vec![0xaa; message.len()], vec![0xaa; message.len()]);
+    assert_eq!(fingerkerf::message_of_number(body, value, &mut ours_out), Ok(()), "{}", case.name);
+    assert_eq!(plain::message_of_number(body, value, &mut plain_out), Ok(()), "{}", case.name);
+    assert_eq!((&ours_out[..], &plain_out[..]), (message, message), "{}", case.name);
+    timing::least([
+        &mut || {
+            black_box(fingerkerf::message_of_number(black_box(body), black_box(value), black_box(&mut ours_out))).ok();
+        },
+        &mut || {
+            black_box(plain::message_of_number(black_box(body), black_box(value), black_box(&mut plain_out))).ok();
+        },
+    ])
+}
+
+fn number_of_message_times(case: &Case) -> [f64; 2] {
+    let (body, message) = (&case.body[..], &case.word[..]);
+    assert_eq!(fingerkerf::number_of_message(body, message).result(), plain::number_of_message(body, message), "{}", case.name);
+    timing::least([
+        &mut || {
+            black_box(fingerkerf::number_of_message(black_box(body), black_box(message)));
+        },
+        &mut || {
+            black_box(plain::number_of_message(black_box(body), black_box(message))).ok();
+        },
+    ])
+}
+
 fn main() {
     println!("{:<62} {:>10} {:>13} {:>6} {:>8}", "case", "ours, ns", "plain, ns", "ratio", "at most");
     for case in cases::all() {
@@ -63,6 +93,8 @@ fn main() {
             Operation::Test => test_times(&case),
             Operation::Decode => decode_times(&case, fingerkerf::decode, plain_decode),
             Operation::DecodeStack => decode_times(&case, fingerkerf::decode_stack, plain::decode_stack),
+            Operation::MessageOfNumber => message_of_number_times(&case),
+            Operation::NumberOfMessage => number_of_message_times(&case),
         };
         let ratio = ours / plain;
         let note = if ratio > case.aim { "above" } else { "" };

@@ -123,6 +123,20 @@ impl<'a> Plan<'a> {
         true
     }
 
+    /// Symbols of a message stay below this.
+    fn radix(&self, cell: usize) -> u64 {
+        (if cell < self.n - self.r { self.q } else { self.q / self.m }) as u64
+    }
+
+    /// The product of all radices, or 17 when it is above 2^63.
+    fn messages(&self) -> Result<u64, usize> {
+        let mut product = 1u64;
+        for cell in 0..self.n {
+            product = product.checked_mul(self.radix(cell)).filter(|&product| product <= 1 << 63).ok_or(17usize)?;
+        }
+        Ok(product)
+    }
+
     fn leaves_codeword(&self, row: &[u8], pattern: &[(usize, usize)]) -> bool {
         let ceiling = self.m * (self.q / self.m);
         let rise = |cell: usize| pattern.iter().find(|&&(c, _)| c == cell).map_or(0, |&(_, g)| g);
@@ -163,6 +177,36 @@ pub fn decode(body: &[u8], row: &[u8], out: &mut [u8]) -> Result<(usize, usize),
         out[c] -= g as u8;
     }
     Ok((pattern.len(), tried))
+}
+
+/// The message of a number, the first symbol least significant.
+pub fn message_of_number(body: &[u8], value: u64, message: &mut [u8]) -> Result<(), usize> {
+    let plan = Plan::open(body)?;
+    if message.len() != plan.n {
+        return Err(8);
+    }
+    if value >= plan.messages()? {
+        return Err(18);
+    }
+    let mut rest = value;
+    for (cell, symbol) in message.iter_mut().enumerate() {
+        *symbol = (rest % plan.radix(cell)) as u8;
+        rest /= plan.radix(cell);
+    }
+    Ok(())
+}
+
+/// The number of a message.
+pub fn number_of_message(body: &[u8], message: &[u8]) -> Result<u64, usize> {
+    let plan = Plan::open(body)?;
+    if message.len() != plan.n {
+        return Err(8);
+    }
+    plan.messages()?;
+    if message.iter().enumerate().any(|(cell, &symbol)| symbol as u64 >= plan.radix(cell)) {
+        return Err(9);
+    }
+    Ok(message.iter().enumerate().rev().fold(0, |number, (cell, &symbol)| number * plan.radix(cell) + symbol as u64))
 }
 
 /// A stack's planes, each as a plan.

@@ -1,4 +1,4 @@
-//! The library, over its C boundary, against a second implementation of document 01.
+//! The library, over its C boundary, against a second implementation of document 01, and of what document 02 adds.
 //!
 //! `differential [CARTLIST]`: with the path of the program `cartlist` its lines are compared too. The cases come from a
 //! fixed seed. A difference, a refusal never reached or too few words beyond reach end it with exit code 1.
@@ -24,6 +24,8 @@ mod images;
 mod labels;
 #[path = "differential/memory.rs"]
 mod memory;
+#[path = "differential/numbers.rs"]
+mod numbers;
 #[path = "differential/order/mod.rs"]
 mod order;
 #[path = "differential/program.rs"]
@@ -50,6 +52,7 @@ const CODES: usize = 8000;
 const STACKS: usize = 4000;
 const LABELS: usize = 3000;
 const IMAGES: usize = 1500;
+const NOTABLE_NUMBERS: usize = 20;
 const ORDER: usize = 12;
 const ORDER_OF_STACKS: usize = 2;
 const PROGRAM_IMAGES: usize = 300;
@@ -77,6 +80,7 @@ fn main() {
 
 fn run_order(tester: &mut Tester, random: &mut Random) {
     order::codes::run(tester, random, ORDER);
+    order::numbers::run(tester, random, ORDER);
     order::stacks::run(tester, random, ORDER_OF_STACKS);
     order::labels::run(tester, random, ORDER);
     order::images::run(tester, random, ORDER);
@@ -85,6 +89,7 @@ fn run_order(tester: &mut Tester, random: &mut Random) {
 
 fn run_generated(tester: &mut Tester, random: &mut Random) {
     (0..CODES).for_each(|_| tester.run_all(&codes::cases(random)));
+    (0..NOTABLE_NUMBERS).for_each(|_| tester.run_all(&numbers::notable_cases(random)));
     (0..STACKS).for_each(|_| tester.run_all(&stacks::cases(random)));
     (0..LABELS).for_each(|_| tester.run_all(&labels::cases(random)));
     tester.run_all(&labels::every_table());

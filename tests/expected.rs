@@ -5,15 +5,16 @@
 mod second;
 
 use second::image::{Image, Record};
-use second::{code, labeling, packing, stack, Decoded, Refused};
+use second::{code, labeling, numbers, packing, stack, Decoded, Refused};
 
 /// What an output holds before a call.
 const FILL: u8 = 9;
 
 /// A case's fields. The last one is the output's length.
-struct Fields {
+struct Fields<'a> {
     first: Vec<u8>,
-    second: Vec<u8>,
+    /// Bytes, or one number.
+    second: &'a str,
     out_length: usize,
 }
 
@@ -25,42 +26,52 @@ fn main() {
     }
 }
 
-fn numbers<T: std::str::FromStr>(field: &str) -> Vec<T> {
+fn decimals<T: std::str::FromStr>(field: &str) -> Vec<T> {
     field.split_whitespace().map(|word| word.parse().unwrap_or_else(|_| panic!("no number: {word}"))).collect()
 }
 
-fn fields(text: &str) -> Fields {
+/// A field of one number.
+fn decimal<T: std::str::FromStr>(field: &str) -> T {
+    let mut all = decimals(field);
+    assert!(all.len() == 1, "not one number: {field}");
+    all.remove(0)
+}
+
+fn fields(text: &str) -> Fields<'_> {
     let parts: Vec<&str> = text.split('/').collect();
-    let out_length = if parts.len() > 1 { numbers(parts[parts.len() - 1])[0] } else { 0 };
-    let second = if parts.len() > 2 { numbers(parts[1]) } else { Vec::new() };
+    let out_length = if parts.len() > 1 { decimal(parts[parts.len() - 1]) } else { 0 };
+    let second = if parts.len() > 2 { parts[1] } else { "" };
     assert!(parts.len() < 4, "more than three fields: {text}");
-    Fields { first: numbers(parts[0]), second, out_length }
+    Fields { first: decimals(parts[0]), second, out_length }
 }
 
 fn answer(line: &str) -> String {
     let (name, rest) = line.split_once(' ').unwrap_or((line, ""));
     let Fields { first, second, out_length } = fields(rest);
+    let bytes = || decimals::<u8>(second);
     match name {
         "test" => tested(code::test(&first)),
-        "encode" => written(code::encode(&first, &second, out_length), out_length),
-        "decode" => decoded(&first, &second, out_length),
-        "recover" => written(code::recover(&first, &second, out_length), out_length),
+        "encode" => written(code::encode(&first, &bytes(), out_length), out_length),
+        "decode" => decoded(&first, &bytes(), out_length),
+        "recover" => written(code::recover(&first, &bytes(), out_length), out_length),
         "code_cells" => sized(code::cells(&first)),
         "test_stack" => tested(stack::test(&first)),
-        "encode_stack" => written(stack::encode(&first, &second, out_length), out_length),
-        "decode_stack" => read(stack::decode(&first, &second, out_length), out_length),
-        "recover_stack" => written(stack::recover(&first, &second, out_length), out_length),
+        "encode_stack" => written(stack::encode(&first, &bytes(), out_length), out_length),
+        "decode_stack" => read(stack::decode(&first, &bytes(), out_length), out_length),
+        "recover_stack" => written(stack::recover(&first, &bytes(), out_length), out_length),
         "stack_cells" => sized(stack::cells(&first)),
         "stack_symbols" => sized(stack::symbols(&first)),
         "make_labels" => written(labeling::make(usize::from(first[0]), out_length), out_length),
-        "to_levels" => written(labeling::to_levels(&first, &second, out_length), out_length),
-        "to_states" => written(labeling::to_states(&first, &second, out_length), out_length),
-        "pack" => written(packing::pack(&first, &second, out_length), out_length),
-        "unpack" => written(packing::unpack(&first, &second, out_length), out_length),
+        "to_levels" => written(labeling::to_levels(&first, &bytes(), out_length), out_length),
+        "to_states" => written(labeling::to_states(&first, &bytes(), out_length), out_length),
+        "pack" => written(packing::pack(&first, &bytes(), out_length), out_length),
+        "unpack" => written(packing::unpack(&first, &bytes(), out_length), out_length),
         "packed_bytes" => sized(packing::packed_bytes(&first)),
+        "message_of_number" => written(numbers::message_of_number(&first, decimal(second), out_length), out_length),
+        "number_of_message" => numbered(numbers::number_of_message(&first, &bytes())),
         "check_image" => tested(Image::check(&first).map(|_| ())),
-        "read_row" => recorded(read_row(&first, usize::from(second[0]), out_length), out_length),
-        "row_cells" => sized(Image::check(&first).and_then(|image| image.row_cells(usize::from(second[0])))),
+        "read_row" => recorded(read_row(&first, decimal(second), out_length), out_length),
+        "row_cells" => sized(Image::check(&first).and_then(|image| image.row_cells(decimal(second)))),
         _ => panic!("no operation of that name: {line}"),
     }
 }
@@ -89,6 +100,10 @@ fn tested(result: Result<(), usize>) -> String {
 
 fn sized(result: Result<usize, usize>) -> String {
     result.map_or_else(refusal, |size| format!("size {size}"))
+}
+
+fn numbered(result: Result<u64, usize>) -> String {
+    result.map_or_else(refusal, |value| format!("number {value}"))
 }
 
 fn written(result: Result<Vec<u8>, usize>, out_length: usize) -> String {

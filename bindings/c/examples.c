@@ -1,4 +1,5 @@
-/* Document 01's examples through the C boundary. Prints a line for each that fails, then how many passed. */
+/* Document 01's examples, and a transponder number as document 02 wants it, through the C boundary. Prints a line for each that fails,
+ * then how many passed. */
 #include <stdio.h>
 #include <string.h>
 
@@ -20,20 +21,26 @@ static int gives(levels_reading r, size_t count, size_t tried, const uint8_t *ou
     return r.number == 0 && r.count == count && r.tried == tried && r.plane == 0 && memcmp(out, levels, n) == 0;
 }
 
-/* A refusal with its plane, and an output buffer that is still all 9. */
-static int refuses(levels_reading r, size_t number, size_t plane, const uint8_t *out, size_t n) {
+/* Is an output buffer still all 9? */
+static int untouched(const uint8_t *out, size_t n) {
     size_t i;
     for (i = 0; i < n; i++) {
         if (out[i] != 9) {
             return 0;
         }
     }
-    return r.number == number && r.count == 0 && r.tried == 0 && r.plane == plane;
+    return 1;
+}
+
+/* A refusal with its plane, and an output buffer that is still all 9. */
+static int refuses(levels_reading r, size_t number, size_t plane, const uint8_t *out, size_t n) {
+    return untouched(out, n) && r.number == number && r.count == 0 && r.tried == 0 && r.plane == plane;
 }
 
 static const uint8_t R[] = {5, 4, 8, 2, 1, 2, 1, 1, 1, 1};
 static const uint8_t F[] = {12, 2, 5, 5, 2, 1, 0, 1, 1, 1, 1, 4, 4, 4, 4, 4, 4, 1, 2, 3, 4, 0, 1, 2, 3, 4};
 static const uint8_t S[] = {3, 3, 2, 2, 1, 1, 1, 2, 2, 1, 1, 1, 2, 2, 1, 1, 1};
+static const uint8_t T[] = {6, 2, 6, 3, 1, 1, 1, 1, 2, 2, 1, 2, 1, 2};
 
 static levels_reading decode(const uint8_t *body, size_t body_len, const uint8_t *word, size_t n, uint8_t *out) {
     memset(out, 9, n);
@@ -43,6 +50,15 @@ static levels_reading decode(const uint8_t *body, size_t body_len, const uint8_t
 static levels_reading decode_stack(const uint8_t *body, size_t body_len, const uint8_t *word, size_t n, uint8_t *out) {
     memset(out, 9, n);
     return levels_decode_stack(body, body_len, word, n, out, n);
+}
+
+static size_t message_of_number(const uint8_t *body, size_t body_len, uint64_t value, uint8_t *out, size_t n) {
+    memset(out, 9, n);
+    return levels_message_of_number(body, body_len, value, out, n);
+}
+
+static int has_number(levels_value v, size_t number, uint64_t value) {
+    return v.number == number && v.value == value;
 }
 
 static void codes_r(void) {
@@ -86,6 +102,31 @@ static void stacks(void) {
     expect("k", refuses(decode_stack(k, sizeof k, word, 2, out), 11, 0, out, 2));
 }
 
+/* A transponder code has four octal digits. It is written to six cells of six levels and read with cell 3 risen. */
+static void transponder(void) {
+    uint8_t out[6];
+    const uint64_t code = 04271;
+    const uint8_t message[] = {1, 0, 2, 4, 1, 0}, written[] = {1, 0, 2, 4, 5, 1}, read[] = {1, 0, 3, 4, 5, 1};
+    expect("transponder", message_of_number(T, sizeof T, code, out, 6) == 0 && memcmp(out, message, 6) == 0);
+    expect("transponder, written", levels_encode(T, sizeof T, message, 6, out, 6) == 0 && memcmp(out, written, 6) == 0);
+    expect("transponder, read", gives(decode(T, sizeof T, read, 6, out), 1, 4, out, written, 6));
+    expect("transponder, recovered", levels_recover(T, sizeof T, written, 6, out, 6) == 0 && memcmp(out, message, 6) == 0);
+    expect("transponder, number", has_number(levels_number_of_message(T, sizeof T, message, 6), 0, code));
+}
+
+/* The messages of T have the numbers below 5,184. 63 cells of two levels have 2^63 messages, one cell more too many. */
+static void numbers(void) {
+    uint8_t out[64];
+    const uint8_t most[] = {63, 0, 2, 2, 1, 0}, above[] = {64, 0, 2, 2, 1, 0}, last[] = {5, 5, 5, 5, 1, 1}, large[] = {0, 0, 0, 0, 2, 0};
+    expect("last number", message_of_number(T, sizeof T, 5183, out, 6) == 0 && memcmp(out, last, 6) == 0);
+    expect("18", message_of_number(T, sizeof T, 5184, out, 6) == 18 && untouched(out, 6));
+    expect("9", has_number(levels_number_of_message(T, sizeof T, large, 6), 9, 0));
+    expect("2^63 messages", message_of_number(most, sizeof most, INT64_MAX, out, 63) == 0);
+    expect("2^63 messages, back", has_number(levels_number_of_message(most, sizeof most, out, 63), 0, INT64_MAX));
+    expect("17", message_of_number(above, sizeof above, 0, out, 64) == 17 && untouched(out, 64));
+    expect("17, back", has_number(levels_number_of_message(above, sizeof above, out, 64), 17, 0));
+}
+
 static void image(void) {
     uint8_t out[5];
     const uint8_t x[] = {2, 1, 0, 13, 0, 10, 0, 3, 1, 23, 0, 5, 0, 5, 4, 8, 2, 1, 2, 1, 1, 1, 1, 4, 5, 3, 2, 1};
@@ -100,6 +141,8 @@ int main(void) {
     codes_f();
     other_codes();
     stacks();
+    transponder();
+    numbers();
     image();
     printf("examples in C: %d passed, %d failed\n", passed, failed);
     return failed != 0;

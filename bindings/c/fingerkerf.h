@@ -24,6 +24,8 @@
  *   14  q or floor(q/M) is no power of two            such levels have no bits; use another labeling or keep the symbols
  *   15  an image whose contents are wrong             the image is cut off, too long, or not an image
  *   16  a body refused by its test, or a reference    one body of the image is damaged
+ *   17  more than 2^63 messages                       choose fewer cells or levels; the messages of this body have no 64-bit numbers
+ *   18  a number that no message has                  it must be below the product of all radices
  *
  * Reading a plan or a stack does not test it: levels_test and levels_test_stack do. Without a passed test a row may be mended in
  * two ways; with one, the codeword within reach is the only one (document 01, demand 3).
@@ -64,6 +66,12 @@ typedef struct {
     size_t size;
 } levels_size;
 
+/* A message's number: number 0 and the value, or the refusal's number and value 0. */
+typedef struct {
+    size_t number;
+    uint64_t value;
+} levels_value;
+
 /* Plans. The body is n r q M l t and the matrix. 0, or the refusal's number. */
 size_t levels_test(const uint8_t *body, size_t body_len);
 /* Write: message of n symbols to out of n cells. */
@@ -87,6 +95,11 @@ size_t levels_to_states(const uint8_t *table, size_t table_len, const uint8_t *l
 /* Bytes: a plan's message to and from levels_packed_bytes bytes. */
 size_t levels_pack(const uint8_t *body, size_t body_len, const uint8_t *message, size_t message_len, uint8_t *bytes, size_t bytes_len);
 size_t levels_unpack(const uint8_t *body, size_t body_len, const uint8_t *bytes, size_t bytes_len, uint8_t *message, size_t message_len);
+
+/* Numbers: a plan's message of n symbols from one 64-bit number, and back. The first symbol is the least significant; the radix of a
+ * cell is q, of a check cell floor(q/M). The numbers of messages are those below the product of all n radices. */
+size_t levels_message_of_number(const uint8_t *body, size_t body_len, uint64_t value, uint8_t *message, size_t message_len);
+levels_value levels_number_of_message(const uint8_t *body, size_t body_len, const uint8_t *message, size_t message_len);
 
 /* The cartridge image. entry counts from 1. */
 size_t levels_check_image(const uint8_t *image, size_t image_len);

@@ -26,6 +26,12 @@ type
     number, size: SizeUInt;
   end;
 
+  { number 0 and the value, or the refusal's number. }
+  TValue = record
+    number: SizeUInt;
+    value: QWord;
+  end;
+
 function levels_test(body: PByte; bodyLen: SizeUInt): SizeUInt; cdecl; external;
 function levels_encode(body: PByte; bodyLen: SizeUInt; message: PByte; messageLen: SizeUInt;
   outp: PByte; outLen: SizeUInt): SizeUInt; cdecl; external;
@@ -52,6 +58,10 @@ function levels_pack(body: PByte; bodyLen: SizeUInt; message: PByte; messageLen:
   bytes: PByte; bytesLen: SizeUInt): SizeUInt; cdecl; external;
 function levels_unpack(body: PByte; bodyLen: SizeUInt; bytes: PByte; bytesLen: SizeUInt;
   message: PByte; messageLen: SizeUInt): SizeUInt; cdecl; external;
+
+function levels_message_of_number(body: PByte; bodyLen: SizeUInt; value: QWord;
+  message: PByte; messageLen: SizeUInt): SizeUInt; cdecl; external;
+function levels_number_of_message(body: PByte; bodyLen: SizeUInt; message: PByte; messageLen: SizeUInt): TValue; cdecl; external;
 
 function levels_check_image(image: PByte; imageLen: SizeUInt): SizeUInt; cdecl; external;
 function levels_read_row(image: PByte; imageLen: SizeUInt; entry: SizeUInt;

@@ -1,6 +1,6 @@
 //! Fingerkerf from Rust: safe calls of the C boundary, on slices.
 //!
-//! A refusal is document 01's number. It changes no buffer. The library keeps no state, so calls may run at once.
+//! A refusal is a number of document 01 or 02. It changes no buffer. The library keeps no state, so calls may run at once.
 //! An empty slice is handed over as null with length 0, which the boundary allows.
 //! Link with `-L native=target/staticlib -l static=fingerkerf`.
 
@@ -43,6 +43,15 @@ pub struct Size {
     pub size: usize,
 }
 
+/// A message's number, as the boundary gives it. `result` turns it into a `Result`.
+#[repr(C)]
+#[derive(Clone, Copy, Debug, PartialEq, Eq)]
+pub struct Value {
+    /// 0 with a value, otherwise the refusal's number.
+    pub number: usize,
+    pub value: u64,
+}
+
 /// A word was decoded.
 #[derive(Clone, Copy, Debug, PartialEq, Eq)]
 pub struct Decoded {
@@ -81,16 +90,19 @@ impl Record {
 
 impl Size {
     pub fn result(self) -> Result<usize, usize> {
-        match self.number {
-            0 => Ok(self.size),
-            number => Err(number),
-        }
+        unless_refused(self.number, self.size)
+    }
+}
+
+impl Value {
+    pub fn result(self) -> Result<u64, usize> {
+        unless_refused(self.number, self.value)
     }
 }
 
 /// The functions of the static library. A slice is a pointer, then a length.
 mod boundary {
-    use super::{Reading, Record, Size};
+    use super::{Reading, Record, Size, Value};
 
     type In = *const u8;
     type Out = *mut u8;
@@ -109,6 +121,8 @@ mod boundary {
         pub fn levels_to_states(table: In, table_len: usize, levels: In, levels_len: usize, states: Out, states_len: usize) -> usize;
         pub fn levels_pack(body: In, body_len: usize, message: In, message_len: usize, bytes: Out, bytes_len: usize) -> usize;
         pub fn levels_unpack(body: In, body_len: usize, bytes: In, bytes_len: usize, message: Out, message_len: usize) -> usize;
+        pub fn levels_message_of_number(body: In, body_len: usize, value: u64, message: Out, message_len: usize) -> usize;
+        pub fn levels_number_of_message(body: In, body_len: usize, message: In, message_len: usize) -> Value;
         pub fn levels_check_image(image: In, image_len: usize) -> usize;
         pub fn levels_read_row(image: In, image_len: usize, entry: usize, out: Out, out_len: usize) -> Record;
         pub fn levels_code_cells(body: In, body_len: usize) -> Size;
@@ -135,11 +149,15 @@ fn output(bytes: &mut [u8]) -> *mut u8 {
     }
 }
 
-fn done(number: usize) -> Result<(), usize> {
+fn unless_refused<T>(number: usize, answer: T) -> Result<T, usize> {
     match number {
-        0 => Ok(()),
+        0 => Ok(answer),
         number => Err(number),
     }
+}
+
+fn done(number: usize) -> Result<(), usize> {
+    unless_refused(number, ())
 }
 
 // Each call below is safe: the boundary reads and writes only inside the slices, whose lengths are handed over with
@@ -208,6 +226,16 @@ pub fn pack(body: &[u8], message: &[u8], bytes: &mut [u8]) -> Result<(), usize> 
 /// A code's message from bytes: `message` has n symbols.
 pub fn unpack(body: &[u8], bytes: &[u8], message: &mut [u8]) -> Result<(), usize> {
     done(unsafe { boundary::levels_unpack(input(body), body.len(), input(bytes), bytes.len(), output(message), message.len()) })
+}
+
+/// A code's message from its number, the first symbol least significant: `message` has n symbols.
+pub fn message_of_number(body: &[u8], value: u64, message: &mut [u8]) -> Result<(), usize> {
+    done(unsafe { boundary::levels_message_of_number(input(body), body.len(), value, output(message), message.len()) })
+}
+
+/// The number of a code's message.
+pub fn number_of_message(body: &[u8], message: &[u8]) -> Value {
+    unsafe { boundary::levels_number_of_message(input(body), body.len(), input(message), message.len()) }
 }
 
 /// Is the image as document 01 says, and does every body pass its test?

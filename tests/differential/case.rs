@@ -2,7 +2,7 @@
 
 use crate::fingerkerf;
 use crate::second::image::{Image, Record};
-use crate::second::{code, labeling, packing, stack, Decoded, Refused};
+use crate::second::{code, labeling, numbers, packing, stack, Decoded, Refused};
 
 /// The enum of the operations, and the list of them all.
 macro_rules! operations {
@@ -20,6 +20,7 @@ operations! {
     TestStack EncodeStack DecodeStack RecoverStack
     MakeLabels ToLevels ToStates
     Pack Unpack
+    MessageOfNumber NumberOfMessage
     CheckImage ReadRow
     CodeCells StackCells StackSymbols PackedBytes RowCells
 }
@@ -30,7 +31,7 @@ pub struct Case {
     pub operation: Operation,
     /// The description, the label table or the image.
     pub first: Vec<u8>,
-    /// The kind of a labeling, or an entry's number.
+    /// The kind of a labeling, an entry's number, or a message's number, whose 64 bits an x86-64 program's usize holds.
     pub number: usize,
     /// The message, word, states, levels or bytes.
     pub second: Vec<u8>,
@@ -63,6 +64,7 @@ pub struct Answer {
     pub tried: usize,
     pub plane: usize,
     pub size: usize,
+    pub value: u64,
 }
 
 /// What a call must answer.
@@ -90,6 +92,8 @@ pub fn call_library(operation: Operation, number: usize, first: &[u8], second: &
         ToStates => plain(fingerkerf::to_states(first, second, out)),
         Pack => plain(fingerkerf::pack(first, second, out)),
         Unpack => plain(fingerkerf::unpack(first, second, out)),
+        MessageOfNumber => plain(fingerkerf::message_of_number(first, number as u64, out)),
+        NumberOfMessage => value(fingerkerf::number_of_message(first, second)),
         CheckImage => plain(fingerkerf::check_image(first)),
         ReadRow => record(fingerkerf::read_row(first, number, out)),
         CodeCells => size(fingerkerf::code_cells(first)),
@@ -118,6 +122,10 @@ fn size(read: fingerkerf::Size) -> Answer {
     Answer { number: read.number, size: read.size, ..Answer::default() }
 }
 
+fn value(read: fingerkerf::Value) -> Answer {
+    Answer { number: read.number, value: read.value, ..Answer::default() }
+}
+
 /// Ask the second implementation.
 pub fn expect(case: &Case) -> Expected {
     use Operation::*;
@@ -136,6 +144,8 @@ pub fn expect(case: &Case) -> Expected {
         ToStates => written(labeling::to_states(first, second, *out_length)),
         Pack => written(packing::pack(first, second, *out_length)),
         Unpack => written(packing::unpack(first, second, *out_length)),
+        MessageOfNumber => written(numbers::message_of_number(first, *number as u64, *out_length)),
+        NumberOfMessage => valued(numbers::number_of_message(first, second)),
         CheckImage => accepted(Image::check(first).map(|_| ())),
         ReadRow => recorded(Image::check(first).and_then(|image| image.read_row(*number, *out_length))),
         CodeCells => sized(code::cells(first)),
@@ -165,11 +175,16 @@ fn written(result: Result<Vec<u8>, usize>) -> Expected {
     }
 }
 
+fn answered(result: Result<Answer, usize>) -> Expected {
+    result.map_or_else(refusal, |answer| expected(answer, None))
+}
+
 fn sized(result: Result<usize, usize>) -> Expected {
-    match result {
-        Ok(size) => expected(Answer { size, ..Answer::default() }, None),
-        Err(number) => refusal(number),
-    }
+    answered(result.map(|size| Answer { size, ..Answer::default() }))
+}
+
+fn valued(result: Result<u64, usize>) -> Expected {
+    answered(result.map(|value| Answer { value, ..Answer::default() }))
 }
 
 fn decoded(result: Result<Decoded, Refused>) -> Expected {

@@ -2,6 +2,7 @@
 
 use crate::case::{Case, Operation};
 use crate::generate::{code_body, damage, faulty_input_cases, made, Made};
+use crate::numbers;
 use crate::random::Random;
 use crate::second::code::Code;
 use crate::second::packing;
@@ -31,7 +32,8 @@ fn refused_code_cases(body: &[u8], random: &mut Random) -> Vec<Made> {
     use Operation::*;
     let n = usize::from(body.first().copied().unwrap_or(0));
     let input = random.bytes(n, 3);
-    [Encode, Decode, Recover, Pack, Unpack].map(|operation| made(Case::with(operation, body, &input, n))).into()
+    let operations = [Encode, Decode, Recover, Pack, Unpack, MessageOfNumber, NumberOfMessage];
+    operations.map(|operation| made(Case::with(operation, body, &input, n))).into()
 }
 
 fn sound_code_cases(body: &[u8], code: &Code, random: &mut Random) -> Vec<Made> {
@@ -62,6 +64,7 @@ fn sound_code_cases(body: &[u8], code: &Code, random: &mut Random) -> Vec<Made> 
         add(Unpack, &random.bytes(packed, 256), code.n, None);
     }
     cases.extend(faulty_code_cases(body, code, random));
+    cases.extend(numbers::cases_of(body, code, random));
     cases
 }
 
@@ -81,7 +84,8 @@ pub fn received_word(code: &Code, random: &mut Random) -> Vec<u8> {
     raised(code, &codeword, risen, code.l, random)
 }
 
-fn message(code: &Code, random: &mut Random) -> Vec<u8> {
+/// A message at random.
+pub fn message(code: &Code, random: &mut Random) -> Vec<u8> {
     (0..code.n).map(|cell| random.below(code.symbol_limit(cell)) as u8).collect()
 }
 

@@ -1,4 +1,4 @@
-//! What the calls reached: document 01's numbers for each operation, and pairs of neighbours in its lists.
+//! What the calls reached: the refusals of each operation, and pairs of neighbours in the lists of documents 01 and 02.
 
 use crate::case::{Answer, Case, Operation, OPERATIONS};
 use crate::second::stack::Stack;
@@ -70,7 +70,7 @@ impl Coverage {
     }
 }
 
-/// What each operation declines, in document 01's order, for a stack of so many planes.
+/// What each operation declines, in the order of documents 01 and 02, for a stack of so many planes.
 pub fn list(operation: Operation, planes: usize) -> Vec<String> {
     use Operation::*;
     let numbers = |numbers: &[usize]| numbers.iter().map(usize::to_string).collect::<Vec<String>>();
@@ -89,6 +89,8 @@ pub fn list(operation: Operation, planes: usize) -> Vec<String> {
         ToLevels | ToStates => numbers(&[2, 13, 8, 10]),
         Pack => code(&[14, 8, 9]),
         Unpack => code(&[14, 8]),
+        MessageOfNumber => code(&[8, 17, 18]),
+        NumberOfMessage => code(&[8, 17, 9]),
         CheckImage => numbers(&[15, 16]),
         ReadRow => [numbers(&[15, 16, 2]), ["8 recorded", "10 recorded", "11 recorded"].map(String::from).to_vec()].concat(),
         CodeCells => code(&[]),

@@ -1,19 +1,23 @@
-//! Small codes and stacks, every word: what is decoded is decided by distance to every codeword.
+//! Small codes and stacks, every word: what is decoded is decided by distance to every codeword. Small codes, every number: each has a
+//! message of its own.
 
 use crate::case::{Case, Operation};
-use crate::generate::bases;
+use crate::generate::{bases, body_of};
 use crate::random::Random;
 use crate::second::code::{self, Code};
-use crate::second::distance::{all_words, code_reaches, stack_reaches};
+use crate::second::distance::{all_words, code_reaches, stack_reaches, words_below};
 use crate::second::stack::{self, Stack};
-use crate::second::{cells_that_differ, Decoded, Refused};
+use crate::second::{cells_that_differ, numbers, Decoded, Refused};
 use crate::tester::{fail, Tester};
+use std::collections::HashSet;
 
 /// Every set of parameters with at most so many words, once.
 const WORDS_OF_EVERY_CODE: usize = 130;
 /// Larger codes with two check cells or more, so many, with at most so many words.
 const LARGER: usize = 60;
 const WORDS_OF_LARGER: usize = 2500;
+/// n, r, q, M of larger codes whose numbers are tried, with two radices above 1: six-level cells for transponder codes, R, others.
+const NUMBERED: [[usize; 4]; 4] = [[6, 2, 6, 3], [5, 4, 8, 2], [5, 2, 5, 2], [3, 1, 12, 5]];
 /// Stacks at random, so many, with at most so many words.
 const STACKS: usize = 400;
 const WORDS_OF_STACKS: usize = 600;
@@ -28,6 +32,7 @@ pub fn run(tester: &mut Tester, random: &mut Random) {
         accepted += usize::from(every_word_of_code(fields, tester, random));
     }
     println!("every word of {} codes, {accepted} of them accepted", small.len() + chosen.len());
+    every_number(tester, random);
     let accepted = (0..STACKS).filter(|_| every_word_of_stack(tester, random)).count();
     println!("every word of {STACKS} stacks, {accepted} of them accepted");
 }
@@ -56,8 +61,7 @@ fn parameters(most_n: usize, most_q: usize) -> Vec<[usize; 6]> {
 
 /// Decode and recover every word; true when the code is accepted.
 fn every_word_of_code(fields: &[usize; 6], tester: &mut Tester, random: &mut Random) -> bool {
-    let [n, r, _, modulus, ..] = *fields;
-    let body = [&fields.map(|field| field as u8)[..], &random.bytes(r * (n - r), modulus)].concat();
+    let body = body_of(*fields, random);
     let Ok(code) = Code::open(&body) else { return false };
     let accepted = tester.run(&Case::of(Operation::Test, &body)) == "done";
     let words = all_words(code.n, code.q);
@@ -72,6 +76,38 @@ fn every_word_of_code(fields: &[usize; 6], tester: &mut Tester, random: &mut Ran
         tester.run(&Case::with(Operation::Recover, &body, word, code.n));
     }
     accepted
+}
+
+/// Numbers have nothing to do with l and t: each n, r, q and M with few words once, and the larger codes.
+fn every_number(tester: &mut Tester, random: &mut Random) {
+    let is_small = |fields: &[usize; 6]| fields[4..] == [1, 0] && words(fields) <= WORDS_OF_EVERY_CODE;
+    let larger = NUMBERED.map(|[n, r, q, modulus]| [n, r, q, modulus, 1, 0]);
+    let codes = parameters(4, 6).into_iter().filter(is_small).chain(larger);
+    let counts: Vec<usize> = codes.map(|fields| every_number_of_code(fields, tester, random)).collect();
+    println!("every number of {} codes: {}", counts.len(), counts.iter().sum::<usize>());
+}
+
+/// Every number has a message of its own, which has that number and can be encoded, and these are all messages. Gives how many. It is
+/// asked of the second implementation, whose answers each run compares with the library's.
+fn every_number_of_code(fields: [usize; 6], tester: &mut Tester, random: &mut Random) -> usize {
+    let (n, body) = (fields[0], body_of(fields, random));
+    let code = Code::open(&body).expect("a sound description");
+    let limits: Vec<usize> = (0..n).map(|cell| code.symbol_limit(cell)).collect();
+    let mut messages: HashSet<Vec<u8>> = words_below(&limits).into_iter().collect();
+    let count = messages.len();
+    let case_of = |value: usize| Case::with(Operation::MessageOfNumber, &body, &[], n).numbered(value);
+    for case in (0..count).map(case_of) {
+        tester.run(&case);
+        let message = numbers::message_of_number(&body, case.number as u64, n).unwrap_or_default();
+        tester.run(&Case::with(Operation::NumberOfMessage, &body, &message, 0));
+        let goes_back = numbers::number_of_message(&body, &message) == Ok(case.number as u64);
+        let encoded = tester.run(&Case::with(Operation::Encode, &body, &message, n)) == "done";
+        if !messages.remove(&message) || !goes_back || !encoded {
+            fail(&case, &format!("message {message:?}"));
+        }
+    }
+    tester.run(&case_of(count));
+    count
 }
 
 /// Decode and recover every word of a small stack at random; true when it is accepted.

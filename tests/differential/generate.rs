@@ -82,10 +82,15 @@ pub fn code_body(random: &mut Random) -> Vec<u8> {
         let modulus = modulus(q, random);
         let (l, t) = (magnitude(modulus, random), random.between(0, n.min(3)));
         if pattern::count(n, l, t) <= limit {
-            let fields = [n, r, q, modulus, l, t].map(|field| field as u8);
-            return [&fields[..], &random.bytes(r * (n - r), modulus)].concat();
+            return body_of([n, r, q, modulus, l, t], random);
         }
     }
+}
+
+/// The body of a code with these parameters, n, r, q, M, l, t, and a matrix at random.
+pub fn body_of(parameters: [usize; 6], random: &mut Random) -> Vec<u8> {
+    let [n, r, _, modulus, ..] = parameters;
+    [&parameters.map(|field| field as u8)[..], &random.bytes(r * (n - r), modulus)].concat()
 }
 
 /// So many bases of 2 or more with a product of at most 64.

@@ -1,6 +1,8 @@
-//! Every value of every field of a description, and every number of patterns.
+//! Every value of every field of a description, every number of patterns, and the most cells whose messages have numbers.
 
 use crate::case::{Case, Operation};
+use crate::second::code::Code;
+use crate::second::numbers;
 use crate::tester::Tester;
 
 /// n, r, q, M, l, t of codes near different bounds.
@@ -19,6 +21,7 @@ pub fn run(tester: &mut Tester) {
         }
     }
     every_number_of_patterns(tester);
+    every_product_of_radices(tester);
 }
 
 fn set<const FIELDS: usize>(mut fields: [usize; FIELDS], field: usize, value: usize) -> [usize; FIELDS] {
@@ -49,6 +52,8 @@ fn run_code(tester: &mut Tester, fields: [usize; 6]) {
     tester.run(&Case::of(Operation::Test, &body));
     tester.run(&Case::of(Operation::PackedBytes, &body));
     tester.run(&Case::with(Operation::Decode, &body, &vec![1; fields[0]], fields[0]));
+    tester.run(&Case::with(Operation::MessageOfNumber, &body, &[], fields[0]).numbered(1));
+    tester.run(&Case::with(Operation::NumberOfMessage, &body, &vec![0; fields[0]], 0));
 }
 
 fn run_stack(tester: &mut Tester, fields: [usize; 5]) {
@@ -67,5 +72,34 @@ fn every_number_of_patterns(tester: &mut Tester) {
                 tester.run(&Case::of(Operation::StackCells, &stack_body([n, 1, l + 1, 0, t])));
             }
         }
+    }
+}
+
+/// Refused 17 above 2^63 messages and not before: for every q, floor(q/M) and r the most cells whose messages have numbers, and one
+/// cell more.
+fn every_product_of_radices(tester: &mut Tester) {
+    for q in 2..=64 {
+        for modulus in (2..=q).filter(|modulus| q / modulus < q / (modulus - 1)) {
+            for r in 0..=12 {
+                let codes: Vec<Vec<u8>> = (r + 1..=64).map(|n| code_body([n, r, q, modulus, 1, 0])).collect();
+                let few = codes.partition_point(|body| messages(body).is_some());
+                codes.iter().take(few + 1).skip(few.saturating_sub(1)).for_each(|body| first_and_last_numbers(tester, body));
+            }
+        }
+    }
+}
+
+fn messages(body: &[u8]) -> Option<u64> {
+    numbers::messages(&Code::open(body).expect("a sound description"))
+}
+
+/// The first number and the last with their messages, and the one behind it. Where there are too many messages, 2^64 - 1 is the last.
+fn first_and_last_numbers(tester: &mut Tester, body: &[u8]) {
+    let n = usize::from(body[0]);
+    let last = messages(body).map_or(u64::MAX, |messages| messages - 1);
+    for value in [0, last, last.wrapping_add(1)] {
+        tester.run(&Case::with(Operation::MessageOfNumber, body, &[], n).numbered(value as usize));
+        let message = numbers::message_of_number(body, value, n).unwrap_or(vec![0; n]);
+        tester.run(&Case::with(Operation::NumberOfMessage, body, &message, 0));
     }
 }

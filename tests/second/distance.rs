@@ -7,9 +7,14 @@ use super::stack::Stack;
 
 /// Every word of n levels below q, the last cell counting fastest.
 pub fn all_words(n: usize, q: usize) -> Vec<Vec<u8>> {
+    words_below(&vec![q; n])
+}
+
+/// Every word whose cells stay each below its limit, the last cell counting fastest.
+pub fn words_below(limits: &[usize]) -> Vec<Vec<u8>> {
     let mut words = vec![Vec::new()];
-    for _ in 0..n {
-        words = words.iter().flat_map(|word| (0..q).map(move |level| [word.as_slice(), &[level as u8]].concat())).collect();
+    for &limit in limits {
+        words = words.iter().flat_map(|word| (0..limit).map(move |level| [word.as_slice(), &[level as u8]].concat())).collect();
     }
     words
 }

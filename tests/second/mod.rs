@@ -1,4 +1,4 @@
-//! A second implementation of document 01, written from its words alone, to compare the library with.
+//! A second implementation of document 01, written from its words and document 02's alone, to compare the library with.
 //!
 //! It decides by distance where it can: to decode, it tries the words within reach one after another and asks of each
 //! whether it is a codeword. It is slow and plain on purpose. Every operation gives document 01's answer: what is
@@ -12,6 +12,7 @@ pub mod distance;
 pub mod image;
 pub mod labeling;
 pub mod listing;
+pub mod numbers;
 pub mod packing;
 pub mod pattern;
 pub mod stack;

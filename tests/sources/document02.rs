@@ -1,9 +1,19 @@
-//! Document 02, wish 1: patterns tried, for document 01's examples b, c, d and f.
+//! Document 02: patterns tried for document 01's examples b, c, d and f (wish 1), and numbers of messages (wish 2).
 
+use crate::case::{Case, Operation};
 use crate::document01::{F, R};
 use crate::paper::Source;
 
+/// Six-level cells that mend one rise of 1. It has 6^4 times 2^2 messages, more than there are transponder codes.
+const T: [u8; 14] = [6, 2, 6, 3, 1, 1, 1, 1, 2, 2, 1, 2, 1, 2];
+/// A transponder code has four octal digits.
+const TRANSPONDER_CODES: u64 = 0o10000;
+
 pub fn run() -> usize {
+    patterns_tried() + transponder() + product_of_radices()
+}
+
+fn patterns_tried() -> usize {
     let mut source = Source::new("document 02, patterns tried");
     source.tries(&R, &[4, 5, 3, 2, 1], 9);
     source.tries(&R, &[4, 6, 3, 2, 1], 15);
@@ -13,4 +23,52 @@ pub fn run() -> usize {
     source.tries(&R, &[3, 5, 3, 1, 1], 1);
     source.tries(&R, &[0, 0, 0, 1, 1], 16);
     source.done()
+}
+
+/// From a number to its message, the codeword, each word read with one cell risen, the codeword, its message and the number.
+fn transponder() -> usize {
+    let mut source = Source::new("document 02, numbers of messages (all transponder codes, on six-level cells)");
+    source.accepts(&T);
+    for code in 0..TRANSPONDER_CODES {
+        let message = source.numbers(&T, code);
+        let codeword = source.mends_every_rise_of(&T, &message);
+        source.gives(&Case::with(Operation::Recover, &T, &codeword, 6), &message);
+    }
+    let message = source.numbers(&T, 0o4271);
+    source.holds("4271 in octal is 1 0 2 4 1 0", message == [1, 0, 2, 4, 1, 0]);
+    source.gives(&Case::with(Operation::Encode, &T, &message, 6), &[1, 0, 2, 4, 5, 1]);
+    source.decodes(Operation::Decode, &T, &[1, 0, 3, 4, 5, 1], &[1, 0, 2, 4, 5, 1], 1);
+    source.done()
+}
+
+/// 17, 18 and 9, at their bounds and in their order.
+fn product_of_radices() -> usize {
+    use Operation::*;
+    let mut source = Source::new("document 02, numbers of messages (the product of the radices)");
+    last_number(&mut source, &T, 5183);
+    last_number(&mut source, &R, 2047);
+    last_number(&mut source, &[39, 0, 3, 3, 1, 0], 3_u64.pow(39) - 1);
+    last_number(&mut source, &[63, 0, 2, 2, 1, 0], (1 << 63) - 1);
+    // Above 2^63; the first is below 2^64, the second is 2^64, the third is small modulo 2^64, the last is 64^64.
+    for [n, q] in [[40, 3], [64, 2], [28, 5], [64, 64]] {
+        let body = [n, 0, q, q, 1, 0];
+        source.answers(&Case::with(MessageOfNumber, &body, &[], n.into()), 17);
+        source.answers(&Case::with(NumberOfMessage, &body, &vec![0; n.into()], 0), 17);
+    }
+    // A message of T whose fifth symbol is below q, but not below floor(q/M).
+    source.answers(&Case::with(NumberOfMessage, &T, &[0, 0, 0, 0, 2, 0], 0), 9);
+    // 17 comes after the lengths, and before 18 and 9: 3^40 is below 2^64 - 1.
+    let above = [40, 0, 3, 3, 1, 0];
+    source.answers(&Case::with(MessageOfNumber, &above, &[], 39), 8);
+    source.answers(&Case::with(NumberOfMessage, &above, &[0; 41], 0), 8);
+    source.answers(&Case::with(MessageOfNumber, &above, &[], 40).numbered(usize::MAX), 17);
+    source.answers(&Case::with(NumberOfMessage, &above, &[3; 40], 0), 17);
+    source.done()
+}
+
+/// The number has a message, the next has none.
+fn last_number(source: &mut Source, body: &[u8], last: u64) {
+    source.numbers(body, last);
+    let next = Case::with(Operation::MessageOfNumber, body, &[], body[0].into()).numbered(last as usize + 1);
+    source.answers(&next, 18);
 }

@@ -78,20 +78,36 @@ impl Source {
         self.holds(&format!("{body:?} reads {word:?} with {place} tried, not {answer:?}"), answer.tried == place);
     }
 
+    /// The number has a message, which is given back; and that message has the number.
+    pub fn numbers(&mut self, body: &[u8], value: u64) -> Vec<u8> {
+        let n = usize::from(body[0]);
+        let (answer, message) = self.call(&Case::with(Operation::MessageOfNumber, body, &[], n).numbered(value as usize));
+        self.holds(&format!("{body:?} has a message for {value}, not {answer:?}"), answer.number == 0);
+        let answer = self.answers(&Case::with(Operation::NumberOfMessage, body, &message, 0), 0);
+        self.holds(&format!("{body:?} numbers {message:?} with {value}, not {answer:?}"), answer.value == value);
+        message
+    }
+
+    /// The message is encoded, to the codeword that is given back; every rise up to l of every cell of it is decoded.
+    pub fn mends_every_rise_of(&mut self, body: &[u8], message: &[u8]) -> Vec<u8> {
+        let (n, q, l) = (usize::from(body[0]), body[2], body[4]);
+        let (_, codeword) = self.call(&Case::with(Operation::Encode, body, message, n));
+        for cell in 0..n {
+            for rise in (1..=l).filter(|rise| codeword[cell] + rise < q) {
+                let mut word = codeword.clone();
+                word[cell] += rise;
+                self.decodes(Operation::Decode, body, &word, &codeword, 1);
+            }
+        }
+        codeword
+    }
+
     /// Messages of 0 and of 1 in every data cell are encoded; every rise up to l of every cell of these codewords is
     /// decoded.
     pub fn mends_every_single_rise(&mut self, body: &[u8]) {
-        let (n, r, q, l) = (usize::from(body[0]), usize::from(body[1]), body[2], body[4]);
+        let (n, r) = (usize::from(body[0]), usize::from(body[1]));
         for symbol in [0, 1] {
-            let message = [vec![symbol; n - r], vec![0; r]].concat();
-            let (_, codeword) = self.call(&Case::with(Operation::Encode, body, &message, n));
-            for cell in 0..n {
-                for rise in (1..=l).filter(|rise| codeword[cell] + rise < q) {
-                    let mut word = codeword.clone();
-                    word[cell] += rise;
-                    self.decodes(Operation::Decode, body, &word, &codeword, 1);
-                }
-            }
+            self.mends_every_rise_of(body, &[vec![symbol; n - r], vec![0; r]].concat());
         }
     }
 }

@@ -1,4 +1,4 @@
--- What the answers of the operations mean in document 01's numbers and values.
+-- What the answers of the operations mean in the documents' numbers and values.
 use mathlib.Core.List.{List}
 use mathlib.Core.Option.{Option, none, some}
 use Prim.Native.Nat.{ℕ}
@@ -13,10 +13,12 @@ use Rattle.answers.specs.declared.ReadAnswer.{ReadAnswer}
 use Rattle.answers.specs.declared.ReadAnswer.the-variants as read
 use Rattle.answers.specs.declared.SizeAnswer.{SizeAnswer}
 use Rattle.answers.specs.declared.SizeAnswer.the-variants as size
+use Rattle.answers.specs.declared.NumberAnswer.{NumberAnswer}
+use Rattle.answers.specs.declared.NumberAnswer.the-variants as message-number
 use Rattle.answers.specs.declared.Outcome.{Outcome}
 use Rattle.answers.specs.declared.Outcome.the-variants as outcome
 
--- document 01's number of a refusal
+-- a refusal's number: document 01's, and from 17 on document 02's
 abbrev pub refusalNumber : Refusal → ℕ
 refusalNumber refusal.TooShort = 1
 refusalNumber refusal.OutOfRange = 2
@@ -35,6 +37,8 @@ refusalNumber refusal.NotAPermutation = 13
 refusalNumber refusal.NotAPowerOfTwo = 14
 refusalNumber refusal.WrongContents = 15
 refusalNumber refusal.WrongBody = 16
+refusalNumber refusal.TooManyMessages = 17
+refusalNumber refusal.NumberTooLarge = 18
 
 -- "stack reading's 11 adds the plane"
 abbrev pub refusalPlane : Refusal → Option ℕ
@@ -55,6 +59,8 @@ refusalPlane refusal.NotAPermutation = none
 refusalPlane refusal.NotAPowerOfTwo = none
 refusalPlane refusal.WrongContents = none
 refusalPlane refusal.WrongBody = none
+refusalPlane refusal.TooManyMessages = none
+refusalPlane refusal.NumberTooLarge = none
 
 module _ {A : Type 0} where
   abbrev pub withPlane : ℕ → Option ℕ → Answer A
@@ -93,3 +99,7 @@ outcomeAs (outcome.Refused x) = refusedAs x
 abbrev pub sizedAs : SizeAnswer → Answer ℕ
 sizedAs (size.Size k) = given k
 sizedAs (size.Refused x) = refusedAs x
+
+abbrev pub numberAs : NumberAnswer → Answer ℕ
+numberAs (message-number.Number x) = given x
+numberAs (message-number.Refused x) = refusedAs x

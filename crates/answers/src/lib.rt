@@ -4,7 +4,7 @@ ghost use mathlib.Core.Bool.{_&&_};
 ghost use lib.Dec.{eqb};
 ghost use Rattle.answers.specs.Answering.{refusalNumber};
 
-// Why an operation declines: document 01's numbers 1 to 16.
+// Why an operation declines: document 01's numbers 1 to 16, and document 02's.
 pub enum Refusal {
     // 1: too few bytes for the fields
     TooShort,
@@ -40,9 +40,13 @@ pub enum Refusal {
     WrongContents,
     // 16: a body that its test refuses, or a wrong reference
     WrongBody,
+    // 17: the product of the radices is above 2^63
+    TooManyMessages,
+    // 18: a number not below the product of the radices
+    NumberTooLarge,
 }
 
-// Document 01's number.
+// Its number.
 pub fn refusal_number(x: Refusal) -> usize
     ensures { λ n. ⌜ n ≡ refusalNumber x ⌝ }
 {
@@ -64,6 +68,8 @@ pub fn refusal_number(x: Refusal) -> usize
         Refusal::NotAPowerOfTwo => 14,
         Refusal::WrongContents => 15,
         Refusal::WrongBody => 16,
+        Refusal::TooManyMessages => 17,
+        Refusal::NumberTooLarge => 18,
     }
 }
 
@@ -94,6 +100,12 @@ pub enum Outcome {
 // A size that a caller needs before a call.
 pub enum SizeAnswer {
     Size(usize),
+    Refused(Refusal),
+}
+
+// The number of a message.
+pub enum NumberAnswer {
+    Number(u64),
     Refused(Refusal),
 }
 

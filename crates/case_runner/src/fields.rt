@@ -22,21 +22,19 @@ pub fn behind(s: &[u8], mark: u8) -> &[u8] {
     if e < s.len() { &s[e + 1..] } else { &s[e..] }
 }
 
-// A number with one more decimal digit, modulo 65,536; other bytes leave it as it is.
-fn with_digit(r: usize, b: u8) -> usize
-    requires { ⌜ r < 65536 ⌝ }
-    ensures { λ x. ⌜ x < 65536 ⌝ }
-{
+// A number with one more decimal digit, where 64 bits surely have room for it; other bytes leave it as it is.
+fn with_digit(r: u64, b: u8) -> u64 {
+    if 1844674407370955160 < r {
+        return r;
+    }
     match b {
-        48..=57 => (r * 10 + byte_helpers::wide(b - 48)) % 65536,
+        48..=57 => r * 10 + byte_helpers::long(b - 48),
         0..=47 | 58..=255 => r,
     }
 }
 
 // The number that a field's digits spell.
-pub fn value(s: &[u8]) -> usize
-    ensures { λ r. ⌜ r < 65536 ⌝ }
-{
+pub fn number(s: &[u8]) -> u64 {
     let mut r = 0;
     let mut i = 0;
     while i < s.len() {
@@ -44,6 +42,13 @@ pub fn value(s: &[u8]) -> usize
         i += 1;
     }
     r
+}
+
+// The same modulo 65,536, as a length.
+pub fn value(s: &[u8]) -> usize
+    ensures { λ r. ⌜ r < 65536 ⌝ }
+{
+    (number(s) % 65536) as usize
 }
 
 fn byte_value(s: &[u8]) -> u8 {

@@ -9,11 +9,13 @@ mod code_cases;
 mod fields;
 mod image_cases;
 mod label_cases;
+mod number_cases;
 mod packing_cases;
 mod printing;
 mod stack_cases;
 
-fn run_operation(name: &[u8], first: &[u8], second: &[u8], out: &mut [u8]) {
+// The second field is handed over as bytes, and as one number.
+fn run_operation(name: &[u8], first: &[u8], second: &[u8], number: u64, out: &mut [u8]) {
     if code_cases::run(name, first, second, out) {
         return;
     }
@@ -24,6 +26,9 @@ fn run_operation(name: &[u8], first: &[u8], second: &[u8], out: &mut [u8]) {
         return;
     }
     if packing_cases::run(name, first, second, out) {
+        return;
+    }
+    if number_cases::run(name, first, number, second, out) {
         return;
     }
     if image_cases::run(name, first, second, out) {
@@ -39,8 +44,9 @@ fn run_fields(name: &[u8], first: &[u8], second: &[u8], length: usize) {
     let mut out = [9u8; 512];
     let n = fields::values(first, &mut a);
     let m = fields::values(second, &mut b);
+    let number = fields::number(second);
     if length <= 512 {
-        run_operation(name, &a[..n], &b[..m], &mut out[0..length]);
+        run_operation(name, &a[..n], &b[..m], number, &mut out[0..length]);
     } else {
         printing::text(b"output too long");
     }

@@ -1,4 +1,5 @@
 // Answers as text.
+use answers::NumberAnswer;
 use answers::Outcome;
 use answers::ReadAnswer;
 use answers::Refusal;
@@ -58,6 +59,16 @@ pub fn size(a: SizeAnswer) {
     match a {
         SizeAnswer::Size(n) => named(b"size ", n),
         SizeAnswer::Refused(x) => refusal(x),
+    }
+}
+
+pub fn message_number(a: NumberAnswer) {
+    match a {
+        NumberAnswer::Number(x) => {
+            text(b"number ");
+            io::print_decimal(STDOUT_FILENO, x);
+        }
+        NumberAnswer::Refused(x) => refusal(x),
     }
 }
 

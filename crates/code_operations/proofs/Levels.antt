@@ -1,17 +1,14 @@
--- Check cells, their symbols and levels; the test of symbols.
-use mathlib.Core.Path.{_≡_, sym, subst}
-use mathlib.Core.Bool.{true}
+-- Check cells, their symbols and levels.
+use mathlib.Core.Path.{_≡_, subst}
 use mathlib.Core.List.{List}
 use Prim.Native.Nat.{ℕ, _+_, _*_, _-_, _/_, _≤_, _<_}
 use native.Mathlib.Nat.{lt-of-lt-of-le, mul-div-le}
 use native.Mathlib.Omega.{arith}
-use lib.Dec.{T}
-use lib.ListN.{length, take, drop, length-drop}
+use lib.ListN.{drop, length-drop}
 use lib.Seq.{getD-drop}
-use Rattle.definitions.specs.Words.{at, allBelow}
+use Rattle.definitions.specs.Words.{at}
 use Rattle.definitions.specs.Codes.{Code, dataCells}
-use Rattle.definitions.specs.Messages.{Message, symbolsFit, checkLevel}
-use Rattle.definitions.proofs.Tests.{and-left, and-right, below-each}
+use Rattle.definitions.specs.Messages.{Message, checkLevel}
 use Rattle.word_laws.proofs.Cells.{each-at}
 use Rattle.code_theorems.proofs.Messages.{check-small}
 use Rattle.syndrome.specs.Columns.{fillingOf}
@@ -37,16 +34,3 @@ pub level-from :
     → high + low ≡ checkLevel p s k
 unfolding checkLevel
 level-from p s k symbol high low e f g = rw (f, e, g)
-
--- symbols that fit are a message
-pub fits : (p : Code) (s : List ℕ) → length s ≡ p .n → symbolsFit p s ≡ true → Message p s
-unfolding symbolsFit
-fits p s long e =
-    let h : T (symbolsFit p s) = subst T (sym e) tt in
-    let low = allBelow (p .q) (take (dataCells p) s) in
-    let high = allBelow (p .q / p .M) (drop (dataCells p) s) in
-    record {
-      long = long;
-      levels = below-each (p .q) (take (dataCells p) s) (and-left low high h);
-      checks = below-each (p .q / p .M) (drop (dataCells p) s) (and-right low high h);
-    }

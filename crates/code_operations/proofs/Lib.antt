@@ -1,6 +1,6 @@
 -- a loop that stores a word cell by cell
 pub mod Storing
--- check cells, their symbols and levels; the test of symbols
+-- check cells, their symbols and levels
 pub mod Levels
 -- the refusals that the operations begin with
 pub mod Refusals

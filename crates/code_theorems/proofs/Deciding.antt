@@ -21,11 +21,11 @@ given-pair k m x c e =
 abbrev pub pair : ℕ → List ℕ → Decoded
 pair k x = given (k, x)
 
--- a decoder's answer in the two forms: with the levels, and apart from them
-pub result-given : (d : Decoded) (out : List ℕ) (k : ℕ) → result d out .answer ≡ given k → d ≡ given (k, result d out .out)
-result-given (given w) out k e = let s : w .0 ≡ k = cc in ap (λ (u : ℕ). pair u (w .1)) s
-result-given (refused i) out k e = let z : _≡_ {A = ℕ} 0 1 = cc in absurd (omega arith)
-result-given (refusedAt i j) out k e = let z : _≡_ {A = ℕ} 0 1 = cc in absurd (omega arith)
+-- an answer in the two forms: with what the buffer then holds, and apart from it
+pub result-given : {A : Type 0} (d : Answer (A × List ℕ)) (out : List ℕ) (k : A) → result d out .answer ≡ given k → d ≡ given (k, result d out .out)
+result-given {A} (given w) out k e = let s : w .0 ≡ k = cc in ap {B = Answer (A × List ℕ)} (λ (u : A). given (u, w .1)) s
+result-given {A} (refused i) out k e = let z : _≡_ {A = ℕ} 0 1 = cc in absurd (omega arith)
+result-given {A} (refusedAt i j) out k e = let z : _≡_ {A = ℕ} 0 1 = cc in absurd (omega arith)
 
 given-result : (d : Decoded) (out : List ℕ) (k : ℕ) (c : List ℕ) → d ≡ given (k, c) → (result d out .answer ≡ given k) × (result d out .out ≡ c)
 given-result d out k c e =

@@ -2,14 +2,14 @@
 use mathlib.Core.Path.{_≡_, refl, sym, subst, _∙_}
 use mathlib.Core.Bool.{Bool, true, false, not}
 use mathlib.Core.List.{List}
-use Prim.Native.Nat.{ℕ, _/_, _≤_, _<_}
+use Prim.Native.Nat.{ℕ, _≤_, _<_}
 use native.Mathlib.Omega.{arith}
 use lib.Dec.{T}
-use lib.ListN.{length, take, drop}
+use lib.ListN.{length}
 use borrow.Author.Tests.{eq-eqb}
 use Rattle.definitions.specs.Words.{allBelow, EachCell}
 use Rattle.definitions.specs.Answers.{given, Result, refuse_when_else_, result}
-use Rattle.definitions.specs.Codes.{Code, dataCells}
+use Rattle.definitions.specs.Codes.{Code}
 use Rattle.definitions.specs.Codewords.{Codeword, isCodeword}
 use Rattle.definitions.specs.Acceptance.{Accepted, accepted}
 use Rattle.definitions.specs.Decoding.{decode}
@@ -24,7 +24,7 @@ use Rattle.code_theorems.proofs.Codewords.{codeword-test}
 use Rattle.code_theorems.proofs.Acceptance.{acceptance}
 use Rattle.code_theorems.proofs.Deciding.{one-codeword, recovered, keeps-messages}
 use Rattle.code_theorems.proofs.Decoding.{distance-decides, decodes-some}
-use Rattle.code_theorems.proofs.Messages.{messages-codewords}
+use Rattle.code_theorems.proofs.Messages.{symbols-pass, messages-codewords}
 
 -- a test that refuses 6 or gives nothing more
 pub tested-by : (a : Bool) (P : Type 0) → (T a → P) → (P → T a) → Tested P (refuse 6 when not a else given tt)
@@ -49,14 +49,13 @@ module _ (b : List ℕ) (p : Code) (opens : openCode b ≡ given p) where
 
   -- demand 2, of encoding
   encodes : (s out : List ℕ) → Message p s → length out ≡ p .n → encodeCode b s out ≡ record { answer = given tt; out = encode p s }
-  unfolding encodeCode symbolsFit
+  unfolding encodeCode
   encodes s out m lo =
       rw (
         opens,
         eq-eqb (length s) (p .n) (m .long),
         eq-eqb (length out) (p .n) lo,
-        is-true (allBelow (p .q) (take (dataCells p) s)) (each-below (p .q) (take (dataCells p) s) (m .levels)),
-        is-true (allBelow (p .q / p .M) (drop (dataCells p) s)) (each-below (p .q / p .M) (drop (dataCells p) s) (m .checks)),
+        is-true (symbolsFit p s) (symbols-pass p s m),
       )
 
   pub encode-demand : (s out : List ℕ) → Message p s → length out ≡ p .n → OneCodeword (ofCode p) s (encodeCode b s out .answer) (encodeCode b s out .out)

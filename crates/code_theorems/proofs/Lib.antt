@@ -20,9 +20,13 @@ pub mod Demands
 pub mod Tried
 -- messages and the bytes that they travel as: one is got back from the other
 pub mod Packing
+-- messages and their numbers: one is got back from the other
+pub mod MessageNumbers
 -- circular reading and ours: for an accepted code they agree wherever a codeword is within reach, and where they differ ours is 11
 pub mod Circular
 -- where M divides q: the ceiling asks nothing, and the codes are those of documents 000 and 003
 pub mod Divides
 -- operations on codes that answer wrongly do not meet the demands
 pub mod Shams
+-- operations between messages and numbers that answer wrongly do not meet their clauses
+pub mod NumberShams

@@ -1,20 +1,46 @@
 -- Demand 2 for codes: messages and codewords correspond one to one.
 use mathlib.Core.Path.{_≡_, sym, ap, ap₂, _∙_, subst}
+use mathlib.Core.Bool.{Bool, true}
 use mathlib.Core.List.{List, _++_, map}
 use Prim.Native.Nat.{ℕ, zero, _+_, _*_, _-_, _/_, _%_, _≤_, _<_}
 use native.Mathlib.Nat.{add-zero, zero-add, mod-lt, mul-add-div, div-eq-of-lt, div-add-mod, mul-div-le, lt-of-lt-of-le, div-lt-iff-lt-mul, mul-comm}
 use native.Mathlib.Decide.{decLt}
 use native.Mathlib.Omega.{arith}
 use lib.Arith.{digits-lt}
+use lib.Dec.{T}
 use lib.ListN.{length, take, drop, length-drop, length-append, length-map, take-append-drop, List·getD-append}
 use lib.Seq.{length-take-le, take-at, drop-at, getD-take, getD-drop, getD-append-add, ext-getD}
-use Rattle.definitions.specs.Words.{at, sumTo, upFrom, EachCell}
+use Rattle.definitions.specs.Words.{at, sumTo, upFrom, allBelow, EachCell}
 use Rattle.definitions.specs.Codes.{Code, dataCells}
 use Rattle.definitions.specs.Codewords.{syndromeEntry, ceiling, Codeword}
-use Rattle.definitions.specs.Messages.{Message, message, checkLevel, encode}
+use Rattle.definitions.specs.Messages.{Message, symbolsFit, message, checkLevel, encode}
 use Rattle.definitions.specs.Demands.{ofCode, OneToOne}
+use Rattle.definitions.proofs.Tests.{and-left, and-right, and-both, below-each, each-below}
 use Rattle.word_laws.proofs.Cells.{each-at, at-each, each-take, at-map, sum-same, length-upFrom, at-upFrom}
 use Rattle.word_laws.proofs.Remainders.{fills, filled}
+
+-- the test of symbols is the proposition
+module _ (p : Code) (s : List ℕ) where
+  abbrev low : Bool
+  low = allBelow (p .q) (take (dataCells p) s)
+
+  abbrev high : Bool
+  high = allBelow (p .q / p .M) (drop (dataCells p) s)
+
+  pub fits : length s ≡ p .n → symbolsFit p s ≡ true → Message p s
+  unfolding symbolsFit
+  fits long e =
+      let h : T (symbolsFit p s) = subst T (sym e) tt in
+      record {
+        long = long;
+        levels = below-each (p .q) (take (dataCells p) s) (and-left low high h);
+        checks = below-each (p .q / p .M) (drop (dataCells p) s) (and-right low high h);
+      }
+
+  pub symbols-pass : Message p s → T (symbolsFit p s)
+  unfolding symbolsFit
+  symbols-pass m =
+      and-both low high (each-below (p .q) (take (dataCells p) s) (m .levels)) (each-below (p .q / p .M) (drop (dataCells p) s) (m .checks))
 
 -- a word of n cells in its two parts
 module _ (n k : ℕ) (a b : List ℕ) (la : length a ≡ k) (le : k ≤ n) (lb : length b ≡ n - k) where

@@ -10,7 +10,7 @@ use lib.Dec.{T, ltb, leb}
 use lib.ListN.{length, take, drop, length-map, length-drop}
 use lib.Seq.{ext-getD, getD-take, getD-drop, length-take-le}
 use borrow.Author.Tests.{lt-ltb, le-ltb, le-leb, lt-leb, eq-eqb}
-use Rattle.definitions.specs.Words.{at, sumTo, upFrom, allBelow, EachCell}
+use Rattle.definitions.specs.Words.{at, sumTo, upFrom}
 use Rattle.definitions.specs.Answers.{given, refuse_when_else_}
 use Rattle.definitions.specs.Codes.{Code, dataCells}
 use Rattle.definitions.specs.Messages.{Message, symbolsFit}
@@ -18,11 +18,12 @@ use Rattle.definitions.specs.CodeOperations.{openCode}
 use Rattle.definitions.specs.PowersOfTwo.{log2, isPowerOfTwo, bit, fromBits}
 use Rattle.definitions.specs.Packing.{radix, packable, width, bitCount, byteCount, bitOf, bytesOf, bitsOf, symbolAt, isLeftover, cleared, pack, unpack}
 use Rattle.definitions.specs.PackingOperations.{openPackable, packCode, unpackCode, Packed, Unpacked}
-use Rattle.definitions.proofs.Tests.{and-left, and-right, each-below}
+use Rattle.definitions.proofs.Tests.{and-left, and-right}
 use Rattle.word_laws.proofs.Cells.{each-at, at-each, at-upFrom, length-upFrom}
 use Rattle.word_laws.proofs.PowersOfTwo.{power-is}
 use Rattle.word_laws.proofs.Bits.{Bits, bit-small, bits-below}
 use Rattle.word_laws.proofs.BitLists.{bytes-long, bytes-same, bit-of-bytes, bits-small, bits-back, symbol-back}
+use Rattle.code_theorems.proofs.Messages.{symbols-pass}
 use Rattle.code_theorems.proofs.Refusals.{is-true, passed, after-given}
 
 bitOf-small : (bytes : List ℕ) → Bits (bitOf bytes)
@@ -109,7 +110,7 @@ module _ (p : Code) where
           let k = each-at (λ v. v < p .q / p .M) (drop (dataCells p) s) (m .checks) (i - dataCells p) (omega (arith, m .long)) in
           rw (radix-check i (omega arith)) (rw e at k)
 
-  radix-below : (s : List ℕ) → length s ≡ p .n → ((i : ℕ) → i < p .n → at s i < radix p i) → Message p s
+  pub radix-below : (s : List ℕ) → length s ≡ p .n → ((i : ℕ) → i < p .n → at s i < radix p i) → Message p s
   radix-below s long below = record {
     long = long;
     levels = at-each (λ v. v < p .q) (take (dataCells p) s) (λ i h.
@@ -163,14 +164,13 @@ module _ (b : List ℕ) (p : Code) (opens : openPackable b ≡ given p) where
       subst (λ (x : Code). T (packable x)) same h
 
   packs : (s out : List ℕ) → Message p s → length out ≡ byteCount p → packCode b s out ≡ record { answer = given tt; out = pack p s }
-  unfolding packCode symbolsFit
+  unfolding packCode
   packs s out m lo =
       rw (
         opens,
         eq-eqb (length s) (p .n) (m .long),
         eq-eqb (length out) (byteCount p) lo,
-        is-true (allBelow (p .q) (take (dataCells p) s)) (each-below (p .q) (take (dataCells p) s) (m .levels)),
-        is-true (allBelow (p .q / p .M) (drop (dataCells p) s)) (each-below (p .q / p .M) (drop (dataCells p) s) (m .checks)),
+        is-true (symbolsFit p s) (symbols-pass p s m),
       )
 
   pub pack-demand : (s out : List ℕ) → Message p s → length out ≡ byteCount p → Packed p s (packCode b s out .answer) (packCode b s out .out)

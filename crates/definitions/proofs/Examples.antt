@@ -15,6 +15,8 @@ use Rattle.definitions.specs.Decoding.{sameSyndrome, fits, decode}
 use Rattle.definitions.specs.Messages.{symbolsFit, checkLevel, encode, message}
 use Rattle.definitions.specs.CodeOperations.{inRange, openCode, testCode, encodeCode, decodeCode, recoverCode}
 use Rattle.definitions.specs.Tried.{tried, triedCode}
+use Rattle.definitions.specs.MessageNumbers.{radixProduct, messageNumber, numberMessage}
+use Rattle.definitions.specs.MessageNumberOperations.{openNumbered, messageOfNumber, numberOfMessage}
 use Rattle.definitions.specs.StackCodewords.{isStackCodeword, acceptedStack}
 use Rattle.definitions.specs.StackMessages.{stackMessage, encodeWord}
 use Rattle.definitions.specs.StackDecoding.{firstWithSyndrome, decodePlanes, decodeWord}
@@ -22,13 +24,13 @@ use Rattle.definitions.specs.StackOperations.{openPlane, openPlanes, ope
 use Rattle.definitions.specs.Images.{contentsRight, checkImage, RowRecord, decodeRow, readRow}
 use Rattle.definitions.specs.CartridgeLists.{linesOf}
 use Rattle.definitions.specs.Circular.{decodeCircular}
-use Rattle.definitions.specs.Examples.{Example, opens, tests, testsStack, encodes, decodes, decodesStack, tries, circular, patterns}
+use Rattle.definitions.specs.Examples.{Example, opens, tests, testsStack, encodes, decodes, decodesStack, tries, numbers, circular, patterns}
 use Rattle.definitions.specs.Examples.{checks, readsRow, lists, writes, passes, Holds, AllHold, lent, R, F, S, H, K, G, table}
 use Rattle.definitions.specs.PowersOfTwo.{log2, isPowerOfTwo}
 use Rattle.definitions.specs.Labels.{gray, reversed, madeTable, isPermutation}
 use Rattle.definitions.specs.LabelOperations.{makeLabels, applicable, toLevels, toStates}
 use Rattle.definitions.specs.LabelExamples.{labels, three}
-use Rattle.definitions.specs.FurtherExamples.{Z, documentImage, stackImage, further}
+use Rattle.definitions.specs.FurtherExamples.{Z, transponder, documentImage, stackImage, further}
 use Rattle.definitions.proofs.Tests.{and-left, and-right, same-eq}
 
 -- equality of answers as a test, given one of what they give; and what it shows
@@ -107,6 +109,7 @@ holds (encodes b s r) = sameResult anyUnit (encodeCode b s (lent (length s))) r
 holds (decodes b y r) = sameResult eqb (decodeCode b y (lent (length y))) r
 holds (decodesStack b y r) = sameResult eqb (decodeStack b y (lent (length y))) r
 holds (tries b y a) = sameAnswer eqb (triedCode b y (lent (length y))) a
+holds (numbers b s a) = sameAnswer eqb (numberOfMessage b s) a
 holds (circular b y a) = sameAnswer samePair (decodeCircular (codeOf b) y) a
 holds (patterns b k) = eqb (length (patternsOf (codeOf b))) k
 holds (checks x a) = sameAnswer anyUnit (checkImage x) a
@@ -123,6 +126,7 @@ shown (encodes b s r) h = results-eq anyUnit units-eq (encodeCode b s (lent (len
 shown (decodes b y r) h = results-eq eqb eqb→eq (decodeCode b y (lent (length y))) r h
 shown (decodesStack b y r) h = results-eq eqb eqb→eq (decodeStack b y (lent (length y))) r h
 shown (tries b y a) h = answers-eq eqb eqb→eq (triedCode b y (lent (length y))) a h
+shown (numbers b s a) h = answers-eq eqb eqb→eq (numberOfMessage b s) a h
 shown (circular b y a) h = answers-eq samePair pairs-eq (decodeCircular (codeOf b) y) a h
 shown (patterns b k) h = eqb→eq (length (patternsOf (codeOf b))) k h
 shown (checks x a) h = answers-eq anyUnit units-eq (checkImage x) a h
@@ -149,9 +153,10 @@ computed = tt
 
 further-computed : T (allHold further)
 unfolding
-    further documentImage stackImage R F S H K G Z
-    syndromeEntry syndrome isCodeword patternsOf patternCount accepted sameSyndrome fits decode checkLevel encode message
-    inRange openCode testCode decodeCode recoverCode tried triedCode decodeStack
+    further documentImage stackImage R F S H K G Z transponder
+    syndromeEntry syndrome isCodeword patternsOf patternCount accepted sameSyndrome fits decode symbolsFit checkLevel encode message
+    inRange openCode testCode encodeCode decodeCode recoverCode tried triedCode decodeStack
+    radixProduct messageNumber numberMessage openNumbered messageOfNumber numberOfMessage
     contentsRight checkImage decodeRow readRow linesOf
     acceptedStack isStackCodeword stackMessage encodeWord firstWithSyndrome
     openPlane openPlanes openStack testStack encodeStack recoverStack decodeCircular decodePlanes decodeWord

@@ -9,6 +9,7 @@ use Rattle.definitions.specs.Codes.{codeOf}
 use Rattle.definitions.specs.Patterns.{patternsOf}
 use Rattle.definitions.specs.CodeOperations.{openCode, testCode, encodeCode, decodeCode}
 use Rattle.definitions.specs.Tried.{triedCode}
+use Rattle.definitions.specs.MessageNumberOperations.{numberOfMessage}
 use Rattle.definitions.specs.StackOperations.{testStack, decodeStack}
 use Rattle.definitions.specs.Images.{checkImage, RowRecord, readRow}
 use Rattle.definitions.specs.CartridgeLists.{linesOf}
@@ -21,6 +22,7 @@ pub data Example : Type 0 where
   encodes : List ℕ → List ℕ → Result (Unit {0}) → Example
   decodes decodesStack : List ℕ → List ℕ → Result ℕ → Example
   tries : List ℕ → List ℕ → Answer ℕ → Example
+  numbers : List ℕ → List ℕ → Answer ℕ → Example
   circular : List ℕ → List ℕ → Answer (ℕ × List ℕ) → Example
   patterns : List ℕ → ℕ → Example
   checks : List ℕ → Answer (Unit {0}) → Example
@@ -43,6 +45,7 @@ Holds (encodes b s r) = encodeCode b s (lent (length s)) ≡ r
 Holds (decodes b y r) = decodeCode b y (lent (length y)) ≡ r
 Holds (decodesStack b y r) = decodeStack b y (lent (length y)) ≡ r
 Holds (tries b y a) = triedCode b y (lent (length y)) ≡ a
+Holds (numbers b s a) = numberOfMessage b s ≡ a
 Holds (circular b y a) = decodeCircular (codeOf b) y ≡ a
 Holds (patterns b k) = length (patternsOf (codeOf b)) ≡ k
 Holds (checks x a) = checkImage x ≡ a

@@ -2,18 +2,28 @@
 -- definition which examples a to l let through.
 use mathlib.Core.Bool.{false}
 use mathlib.Core.List.{List, [], _∷_, _++_}
-use Prim.Native.Nat.{ℕ}
+use Prim.Native.Nat.{ℕ, _-_, _^_}
+use lib.ListN.{replicate}
 use Rattle.definitions.specs.Answers.{given, refused, refusedAt}
 use Rattle.definitions.specs.Codes.{codeOf}
 use Rattle.definitions.specs.Decoding.{fits}
 use Rattle.definitions.specs.CodeOperations.{recoverCode}
+use Rattle.definitions.specs.MessageNumberOperations.{messageOfNumber}
 use Rattle.definitions.specs.StackOperations.{encodeStack, recoverStack}
-use Rattle.definitions.specs.Examples.{Example, tests, testsStack, decodes, tries, circular, checks, readsRow, lists, writes, passes}
+use Rattle.definitions.specs.Examples.{Example, tests, testsStack, encodes, decodes, tries, numbers, circular, checks, readsRow, lists, writes, passes}
 use Rattle.definitions.specs.Examples.{lent, zeros, back, declined, R, F, S, H, K, G}
 
 -- no cell may rise
 unfoldable pub Z : List ℕ
 Z = 2 ∷ 1 ∷ 8 ∷ 2 ∷ 1 ∷ 0 ∷ 0 ∷ []
+
+-- six cells of six levels: 6^4 * 2^2 messages, enough for the 4,096 transponder codes of four octal digits
+unfoldable pub transponder : List ℕ
+transponder = 6 ∷ 2 ∷ 6 ∷ 3 ∷ 1 ∷ 1 ∷ 1 ∷ 1 ∷ 2 ∷ 2 ∷ 1 ∷ 2 ∷ 1 ∷ 2 ∷ []
+
+-- n cells of q levels and no check cells: q^n messages
+abbrev pub allData : ℕ → ℕ → List ℕ
+allData n q = n ∷ 0 ∷ q ∷ q ∷ 1 ∷ 0 ∷ []
 
 -- an image of two entries, six bytes each, and their bodies
 abbrev pub imageOf : List ℕ → List ℕ → List ℕ → List ℕ
@@ -56,6 +66,27 @@ further =
     ∷ tries R (0 ∷ 0 ∷ 0 ∷ 1 ∷ 1 ∷ []) (given 16)
     ∷ tries R (0 ∷ 1 ∷ 1 ∷ 1 ∷ 1 ∷ []) (refused 11)
     ∷ tries R (8 ∷ zeros 4) (refused 10)
+    -- wish 2, numbers: transponder code 4271 in octal is 2233; its message, the codeword, cell 3 read too high, and back to the number
+    ∷ tests transponder (given tt)
+    ∷ writes (messageOfNumber transponder 2233 (lent 6)) (back tt (1 ∷ 0 ∷ 2 ∷ 4 ∷ 1 ∷ 0 ∷ []))
+    ∷ encodes transponder (1 ∷ 0 ∷ 2 ∷ 4 ∷ 1 ∷ 0 ∷ []) (back tt (1 ∷ 0 ∷ 2 ∷ 4 ∷ 5 ∷ 1 ∷ []))
+    ∷ decodes transponder (1 ∷ 0 ∷ 3 ∷ 4 ∷ 5 ∷ 1 ∷ []) (back 1 (1 ∷ 0 ∷ 2 ∷ 4 ∷ 5 ∷ 1 ∷ []))
+    ∷ writes (recoverCode transponder (1 ∷ 0 ∷ 2 ∷ 4 ∷ 5 ∷ 1 ∷ []) (lent 6)) (back tt (1 ∷ 0 ∷ 2 ∷ 4 ∷ 1 ∷ 0 ∷ []))
+    ∷ numbers transponder (1 ∷ 0 ∷ 2 ∷ 4 ∷ 1 ∷ 0 ∷ []) (given 2233)
+    -- R's numbers are those below 8 * 4^4 = 2048
+    ∷ writes (messageOfNumber R 2047 (lent 5)) (back tt (7 ∷ 3 ∷ 3 ∷ 3 ∷ 3 ∷ []))
+    ∷ writes (messageOfNumber R 2048 (lent 5)) (declined 18 5)
+    ∷ numbers R (0 ∷ 0 ∷ 0 ∷ 0 ∷ 4 ∷ []) (refused 9)
+    -- a product of exactly 2^63 passes; 5^28 modulo 2^64 would be below it
+    ∷ writes (messageOfNumber (allData 63 2) (2 ^ 63 - 1) (lent 63)) (back tt (replicate 63 1))
+    ∷ numbers (allData 63 2) (replicate 63 1) (given (2 ^ 63 - 1))
+    ∷ writes (messageOfNumber (allData 63 2) (2 ^ 63) (lent 63)) (declined 18 63)
+    ∷ numbers (allData 28 5) (zeros 28) (refused 17)
+    ∷ numbers (allData 64 64) (zeros 64) (refused 17)
+    -- 8 before 17, 17 before 18 and before 9
+    ∷ writes (messageOfNumber (allData 64 2) 0 (lent 63)) (declined 8 63)
+    ∷ writes (messageOfNumber (allData 40 3) (2 ^ 64 - 1) (lent 40)) (declined 17 40)
+    ∷ numbers (allData 40 3) (replicate 40 3) (refused 17)
     -- circular reading raises 0 to the top level where d is refused; without acceptance it may differ from a word given back
     ∷ circular R (0 ∷ 1 ∷ 1 ∷ 1 ∷ 1 ∷ []) (given (1, 7 ∷ 1 ∷ 1 ∷ 1 ∷ 1 ∷ []))
     ∷ decodes G (0 ∷ 1 ∷ []) (back 1 (zeros 2))

@@ -24,6 +24,10 @@ pub mod PowersOfTwo
 pub mod Packing
 -- the operations of packing, for every byte string and every buffer: document 01's "bytes, either way"
 pub mod PackingOperations
+-- a message as one whole number, in mixed radix: document 02's wish 2
+pub mod MessageNumbers
+-- the operations between messages and numbers, for every byte string and every buffer: document 02's wish 2
+pub mod MessageNumberOperations
 -- labels: labelings of physical states with levels (document 001, section III)
 pub mod Labels
 -- the operations on labels, for every table and every buffer: document 01's refusals in their order

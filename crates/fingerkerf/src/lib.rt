@@ -1,6 +1,7 @@
 // The boundary for other languages: each operation with numbers in place of enums. A slice is a pointer, then a length.
 use numbered_answers::Reading;
 use numbered_answers::Size;
+use numbered_answers::Value;
 use row_numbers::RowNumbers;
 ghost use mathlib.Core.Path.{_≡_};
 ghost use lib.ListN.{length};
@@ -16,6 +17,7 @@ ghost use Rattle.definitions.specs.Images.{bodyOf, checkImage, readRow};
 ghost use Rattle.definitions.specs.Labels.{Permutation};
 ghost use Rattle.definitions.specs.LabelOperations.{makeLabels, toLevels, toStates, GoesBack};
 ghost use Rattle.definitions.specs.PackingOperations.{packCode, unpackCode, Packed, Unpacked};
+ghost use Rattle.definitions.specs.MessageNumberOperations.{messageOfNumber, numberOfMessage, MessageMade, NumberMade};
 ghost use Rattle.definitions.specs.Sizes.{codeCells, stackCells, stackSymbols, packedBytes, rowCells};
 ghost use Rattle.definitions.specs.Demands.{ofCode, ofStack, Tested, OneCodeword, Recovered, DistanceDecides, SomeCodeword};
 ghost use Rattle.definitions.specs.Demands.{GivenWithinReach, KeepsMessages};
@@ -25,7 +27,8 @@ ghost use Rattle.stack_decoding.specs.StackReading.{WhereStackReads, WhereStack
 ghost use Rattle.row_reading.specs.RowClauses.{WherePlanRow, WhereStackRow, RecordDecides};
 ghost use Rattle.row_numbers.specs.RowNumbers.{RowNumbered, rowBy};
 ghost use Rattle.packing.specs.Packing.{WherePacked, WhereUnpacked};
-ghost use Rattle.numbered_answers.specs.Numbers.{numberOf, countOf, ReadNumbered, SizeNumbered, answerBy, countBy};
+ghost use Rattle.message_numbers.specs.Numbering.{WhereNumber, WhereMessage};
+ghost use Rattle.numbered_answers.specs.Numbers.{numberOf, countOf, ReadNumbered, SizeNumbered, ValueNumbered, answerBy, countBy};
 
 // Test a plan.
 #[no_mangle]
@@ -174,6 +177,27 @@ pub extern "C" fn levels_unpack(body: &[u8], bytes: &[u8], message: &mut [u8]) -
         (λ p. Unpacked p (now (bytes .entry)) (answerBy r) (now (message .exit))) ⌝ }
 {
     numbered_answers::of_write(packing::unpack(body, bytes, message))
+}
+
+// A plan's message from a number.
+#[no_mangle]
+pub extern "C" fn levels_message_of_number(body: &[u8], value: u64, message: &mut [u8]) -> usize
+    ensures number { λ r. ⌜ r ≡ numberOf (messageOfNumber (now (body .entry)) value (now (message .entry)) .answer) ⌝ }
+    ensures buffer { λ r. ⌜ now (message .exit) ≡ messageOfNumber (now (body .entry)) value (now (message .entry)) .out ⌝ }
+    ensures made { λ r. ⌜ WhereNumber (now (body .entry)) value (now (message .entry))
+        (λ p. MessageMade (now (body .entry)) p value (answerBy r) (now (message .exit))) ⌝ }
+{
+    numbered_answers::of_write(message_numbers::message_of_number(body, value, message))
+}
+
+// The number of a plan's message.
+#[no_mangle]
+pub extern "C" fn levels_number_of_message(body: &[u8], message: &[u8]) -> Value
+    ensures numbers { λ r. ⌜ ValueNumbered (numberOfMessage (now (body .entry)) (now (message .entry))) r ⌝ }
+    ensures made { λ r. ⌜ WhereMessage (now (body .entry)) (now (message .entry))
+        (λ p. NumberMade (now (body .entry)) p (now (message .entry)) (countBy (r .number) (r .value))) ⌝ }
+{
+    numbered_answers::of_number(message_numbers::number_of_message(body, message))
 }
 
 // Check an image.

@@ -8,7 +8,7 @@ use Rattle.answers.specs.Answering.{refusalNumber, refusalPlane, withPlane, ref
 use Rattle.answers.specs.declared.Refusal.{Refusal}
 use Rattle.answers.specs.declared.Refusal.the-variants as refusal
 use Rattle.numbered_answers.specs.declared.Reading.{Reading}
-use Rattle.numbered_answers.specs.Numbers.{numberOf, countOf, answerPlane, orZero, planeNumber, ReadNumbered, SizeNumbered}
+use Rattle.numbered_answers.specs.Numbers.{numberOf, countOf, answerPlane, orZero, planeNumber, ReadNumbered, SizeNumbered, ValueNumbered}
 
 -- a refusal's number is not 0
 pub positive : (x : Refusal) → 1 ≤ refusalNumber x
@@ -29,6 +29,8 @@ positive refusal.NotAPermutation = omega arith
 positive refusal.NotAPowerOfTwo = omega arith
 positive refusal.WrongContents = omega arith
 positive refusal.WrongBody = omega arith
+positive refusal.TooManyMessages = omega arith
+positive refusal.NumberTooLarge = omega arith
 
 module _ (A : Type 0) where
   number-with : (k : ℕ) (j : Option ℕ) → numberOf (withPlane {A = A} k j) ≡ k
@@ -59,3 +61,6 @@ numbered x e f = record {
 
 pub sized : (x : Refusal) {number : ℕ} → number ≡ refusalNumber x → SizeNumbered (refusedAs x) (record { number = number; size = 0 })
 sized x e = record { number-is = e ∙ sym (refused-number ℕ x); size-is = sym (count-with (refusalNumber x) (refusalPlane x)) }
+
+pub valued : (x : Refusal) {number : ℕ} → number ≡ refusalNumber x → ValueNumbered (refusedAs x) (record { number = number; value = 0 })
+valued x e = record { number-is = e ∙ sym (refused-number ℕ x); value-is = sym (count-with (refusalNumber x) (refusalPlane x)) }

@@ -8,6 +8,7 @@ use native.Mathlib.Omega.{arith}
 use Rattle.definitions.specs.Answers.{Answer, given, refused, Result, number}
 use Rattle.definitions.specs.Codes.{Code}
 use Rattle.definitions.specs.PackingOperations.{Packed, Unpacked}
+use Rattle.definitions.specs.MessageNumberOperations.{MessageMade, NumberMade}
 use Rattle.definitions.specs.Demands.{Coding, Tested, OneCodeword, Recovered, DistanceDecides, SomeCodeword}
 use Rattle.definitions.specs.Demands.{GivenWithinReach, KeepsMessages}
 use Rattle.answers.specs.Answering.{refusalNumber, refusalPlane, withPlane, testedAs, writtenAs, readAs, triedAs, outcomeAs, leaves}
@@ -19,8 +20,9 @@ use Rattle.answers.specs.declared.ReadAnswer.{ReadAnswer}
 use Rattle.answers.specs.declared.ReadAnswer.the-variants as read
 use Rattle.answers.specs.declared.Outcome.{Outcome}
 use Rattle.answers.specs.declared.Outcome.the-variants as outcome
-use Rattle.numbered_answers.specs.Numbers.{numberOf, countOf, ReadNumbered, answerBy, countBy}
+use Rattle.numbered_answers.specs.Numbers.{numberOf, countOf, ReadNumbered, ValueNumbered, answerBy, countBy}
 use Rattle.numbered_answers.specs.declared.Reading.{Reading}
+use Rattle.numbered_answers.specs.declared.Value.{Value}
 use Rattle.numbered_answers.proofs.Refused.{positive, refused-number}
 
 -- two answers of reading that give the same and are refused by the same number
@@ -125,6 +127,27 @@ module _ (p : Code) (x out : List ℕ) (a : Answer (Unit {0})) (r : ℕ) (e : r 
 
   pub unpack-by : Unpacked p x a out → Unpacked p x (answerBy r) out
   unpack-by h = record { written = (let w = h .written in rw (e, w)); isMessage = h .isMessage; back = h .back }
+
+-- and of messages and their numbers
+pub message-by : (b : List ℕ) (p : Code) (x : ℕ) (out : List ℕ) (a : Answer (Unit {0})) (r : ℕ) → r ≡ numberOf a
+    → MessageMade b p x a out → MessageMade b p x (answerBy r) out
+message-by b p x out a r e h = record {
+  made = (let w = h .made in rw (e, w));
+  isMessage = h .isMessage;
+  writable = h .writable;
+  back = h .back;
+  only = h .only;
+}
+
+pub number-by : (b : List ℕ) (p : Code) (s : List ℕ) (a : Answer ℕ) (r : Value) → ValueNumbered a r
+    → NumberMade b p s a → NumberMade b p s (countBy (r .number) (r .value))
+number-by b p s a r n h = record {
+  x = h .x;
+  made = (let w = h .made in let k = n .number-is in let v = n .value-is in rw (k, v, w));
+  below = h .below;
+  back = h .back;
+  only = h .only;
+}
 
 module _ (a : Answer ℕ) (r : Reading) (h : ReadNumbered a r) where
   pub alike-by : Alike a (countBy (numberOf a) (countOf a)) → Alike a (countBy (r .number) (r .count))

@@ -1,4 +1,5 @@
-// Answers as numbers, for other languages: 0 where nothing is refused, else document 01's number; what does not apply is 0.
+// Answers as numbers, for other languages: 0 where nothing is refused, else the refusal's number; what does not apply is 0.
+use answers::NumberAnswer;
 use answers::Outcome;
 use answers::ReadAnswer;
 use answers::Refusal;
@@ -6,8 +7,8 @@ use answers::SizeAnswer;
 use answers::TestAnswer;
 use answers::WriteAnswer;
 ghost use mathlib.Core.Path.{_≡_};
-ghost use Rattle.answers.specs.Answering.{testedAs, writtenAs, readAs, triedAs, outcomeAs, sizedAs};
-ghost use Rattle.numbered_answers.specs.Numbers.{numberOf, countOf, planeNumber, ReadNumbered, SizeNumbered};
+ghost use Rattle.answers.specs.Answering.{testedAs, writtenAs, readAs, triedAs, outcomeAs, sizedAs, numberAs};
+ghost use Rattle.numbered_answers.specs.Numbers.{numberOf, countOf, planeNumber, ReadNumbered, SizeNumbered, ValueNumbered};
 
 // A count with how many patterns were tried, or a refusal's number; the plane goes with a stack's 11.
 #[repr(C)]
@@ -23,6 +24,13 @@ pub struct Reading {
 pub struct Size {
     pub number: usize,
     pub size: usize,
+}
+
+// The number of a message as a value, or a refusal's number.
+#[repr(C)]
+pub struct Value {
+    pub number: usize,
+    pub value: u64,
 }
 
 pub fn of_test(a: TestAnswer) -> usize
@@ -102,6 +110,18 @@ pub fn of_size(a: SizeAnswer) -> Size
         SizeAnswer::Refused(x) => Size {
             number: answers::refusal_number(x),
             size: 0,
+        },
+    }
+}
+
+pub fn of_number(a: NumberAnswer) -> Value
+    ensures { λ r. ⌜ ValueNumbered (numberAs a) r ⌝ }
+{
+    match a {
+        NumberAnswer::Number(value) => Value { number: 0, value },
+        NumberAnswer::Refused(x) => Value {
+            number: answers::refusal_number(x),
+            value: 0,
         },
     }
 }

@@ -1,14 +1,15 @@
 -- Numbers and their bits.
-use mathlib.Core.Path.{_≡_, refl, sym, ap, _∙_, subst}
+use mathlib.Core.Path.{_≡_, refl, ap, _∙_}
 use Prim.Native.Nat.{ℕ, zero, suc, _+_, _*_, _-_, _/_, _%_, _^_, _≤_, _<_}
-use native.Mathlib.Nat.{add-zero, add-suc, add-comm, add-mul, zero-mul, one-mul, mul-comm, mul-assoc, mul-one}
-use native.Mathlib.Nat.{pow-zero, pow-succ', two-pow-succ, mod-lt, mod-one, mod-eq-of-lt, div-eq-of-lt, lt-of-lt-of-le}
+use native.Mathlib.Nat.{add-zero, add-suc, add-mul, zero-mul, mul-comm, mul-assoc}
+use native.Mathlib.Nat.{pow-zero, pow-succ', mod-lt, mod-eq-of-lt, div-eq-of-lt, lt-of-lt-of-le}
 use native.Mathlib.Omega.{arith}
-use lib.Arith.{digits-div, digits-mod, mod-mul}
-use lib.Pow.{pow-pos, pow-mono, pow-add, shr-shr}
+use lib.Arith.{digits-div, digits-mod}
+use lib.Pow.{pow-mono, pow-add, shr-shr}
 use Rattle.definitions.specs.Words.{sumTo}
 use Rattle.definitions.specs.PowersOfTwo.{bit, fromBits}
 use Rattle.word_laws.proofs.Cells.{sum-same}
+use Rattle.word_laws.proofs.MixedRadix.{Digits, made-below, digit-made, made-digits}
 
 -- f gives bits
 abbrev pub Bits : (ℕ → ℕ) → Type 0
@@ -35,21 +36,20 @@ bits-apart f a (suc b) = rw (add-suc, bits-apart f a b, pow-add 2 a b) (whole (f
     whole : (y z v A B : ℕ) → (y * A + z) + v * (A * B) ≡ (y + v * B) * A + z
     whole y z v A B = sums (y * A) z ((y + v * B) * A) (v * (A * B)) (add-mul y (v * B) A ∙ rw (mul-assoc v B A, mul-comm B A) refl)
 
+-- bits are the digits of radix 2
+bit-digits : (f : ℕ → ℕ) → Bits f → (w : ℕ) → Digits (λ _. 2) (λ k. 2 ^ k) (pow-zero 2) (pow-succ' 2) f w
+bit-digits f h w i g = let b = h i in omega arith
+
 pub bits-below : (f : ℕ → ℕ) → Bits f → (w : ℕ) → fromBits w f < 2 ^ w
-bits-below f h zero = omega arith
-bits-below f h (suc w) = rw two-pow-succ (sum (f w) (2 ^ w) (fromBits w f) (h w) (bits-below f h w))
-  where
-    sum : (b P x : ℕ) → b ≤ 1 → x < P → x + b * P < P + P
-    sum zero P x g k = rw zero-mul (omega arith)
-    sum (suc zero) P x g k = rw one-mul (omega arith)
-    sum (suc (suc b)) P x g k = absurd (omega arith)
+bits-below f h w = made-below (λ _. 2) (λ k. 2 ^ k) (pow-zero 2) (pow-succ' 2) f w (bit-digits f h w)
+
+-- bit i of the number whose bits are f
+pub bit-from : (f : ℕ → ℕ) → Bits f → (w i : ℕ) → i < w → bit (fromBits w f) i ≡ f i
+bit-from f h w i g = digit-made (λ _. 2) (λ k. 2 ^ k) (pow-zero 2) (pow-succ' 2) f w (bit-digits f h w) i g
 
 -- the number that the low w bits of x make
 pub bits-of : (x w : ℕ) → fromBits w (bit x) ≡ x % 2 ^ w
-bits-of x zero = rw pow-zero (sym (mod-one x))
-bits-of x (suc w) =
-    ap (λ (z : ℕ). z + bit x w * 2 ^ w) (bits-of x w) ∙ add-comm (x % 2 ^ w) (bit x w * 2 ^ w)
-    ∙ sym (mod-mul x {m = 2} {c = 2 ^ w} (omega arith) (pow-pos w)) ∙ ap (λ (z : ℕ). x % z) (sym (pow-succ' 2 w))
+bits-of x w = made-digits (λ _. 2) (λ k. 2 ^ k) (pow-zero 2) (pow-succ' 2) (λ _. omega arith) x w
 
 pub bits-whole : (x w : ℕ) → x < 2 ^ w → fromBits w (bit x) ≡ x
 bits-whole x w h = bits-of x w ∙ mod-eq-of-lt h
@@ -61,15 +61,6 @@ module _ (f : ℕ → ℕ) (small : Bits f) (a b : ℕ) where
 
   pub bits-high : fromBits (a + b) f / 2 ^ a ≡ fromBits b (λ k. f (a + k))
   bits-high = rw bits-apart (digits-div (fromBits b (λ k. f (a + k))) (bits-below f small a))
-
--- bit i of the number whose bits are f
-pub bit-from : (f : ℕ → ℕ) → Bits f → (w i : ℕ) → i < w → bit (fromBits w f) i ≡ f i
-bit-from f h w i g =
-    let e : w ≡ i + (1 + (w - suc i)) = omega arith in
-    rw (e, bits-high f h i (1 + (w - suc i)), bits-low (λ k. f (i + k)) (λ k. h (i + k)) 1 (w - suc i)) (one (f (i + 0)) ∙ ap f (add-zero i))
-  where
-    one : (v : ℕ) → 0 + v * 2 ^ 0 ≡ v
-    one v = rw (pow-zero, mul-one) (omega arith)
 
 pub bit-above : (x w i : ℕ) → x < 2 ^ w → w ≤ i → bit x i ≡ 0
 bit-above x w i h g = rw (div-eq-of-lt (lt-of-lt-of-le h (pow-mono g))) refl

@@ -14,6 +14,8 @@ pub mod PatternSplits
 pub mod Subtraction
 -- arrays that a loop fills from the front
 pub mod Filling
+-- numbers in mixed radix: what digits make, and the digits of a number
+pub mod MixedRadix
 -- powers of two and their exponents
 pub mod PowersOfTwo
 -- the bits of a number

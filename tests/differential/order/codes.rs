@@ -8,7 +8,7 @@ use crate::second::packing;
 use crate::tester::Tester;
 
 const N: usize = 0;
-const Q: usize = 2;
+pub const Q: usize = 2;
 const MODULUS: usize = 3;
 const L: usize = 4;
 const T: usize = 5;
@@ -57,7 +57,8 @@ fn sound_case(operation: Operation, random: &mut Random) -> Case {
     }
 }
 
-fn opening() -> Vec<Fault<'static>> {
+/// Faults of opening a code with a check cell, so that there is a matrix, and too many patterns for t = 3.
+pub fn opening() -> Vec<Fault<'static>> {
     vec![
         fault(1, |case, random| case.first.truncate(random.between(1, 5))),
         fault(2, |case, random| case.first[N] = random.pick(&[0, 65, 255])),

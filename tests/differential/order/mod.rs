@@ -1,8 +1,9 @@
-//! The order of refusals: of two faults in one case, the one that document 01 lists first is answered.
+//! The order of refusals: of two faults in one case, the one that document 01 or 02 lists first is answered.
 
 pub mod codes;
 pub mod images;
 pub mod labels;
+pub mod numbers;
 pub mod stacks;
 
 use crate::case::Case;
@@ -54,13 +55,28 @@ fn must_answer(tester: &mut Tester, case: &Case, label: &str) {
 /// Lengths to add to a buffer that is too long: 256 more must not pass for none.
 const TOO_LONG: [usize; 4] = [1, 1, 2, 256];
 
+/// A shorter or a longer length.
+pub fn other_length(length: usize, random: &mut Random) -> usize {
+    if length > 0 && random.one_in(2) {
+        random.pick(&[0, length - 1])
+    } else {
+        length + random.pick(&TOO_LONG)
+    }
+}
+
 /// Make one of the lent buffers shorter or longer.
 pub fn wrong_length(case: &mut Case, random: &mut Random) {
-    let (before, more) = (case.second.len(), random.pick(&TOO_LONG));
-    match random.below(4) {
-        0 if before > 0 => case.second.truncate(random.pick(&[0, before - 1])),
-        1 => case.second.resize(before + more, 0),
-        2 if case.out_length > 0 => case.out_length = random.pick(&[0, case.out_length - 1]),
-        _ => case.out_length += more,
+    if random.one_in(2) {
+        wrong_input_length(case, random);
+    } else {
+        wrong_out_length(case, random);
     }
+}
+
+pub fn wrong_input_length(case: &mut Case, random: &mut Random) {
+    case.second.resize(other_length(case.second.len(), random), 0);
+}
+
+pub fn wrong_out_length(case: &mut Case, random: &mut Random) {
+    case.out_length = other_length(case.out_length, random);
 }

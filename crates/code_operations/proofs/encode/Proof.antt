@@ -13,8 +13,8 @@ use Rattle.definitions.specs.Messages.{symbolsFit}
 use Rattle.definitions.specs.CodeOperations.{openCode, encodeCode}
 use Rattle.opening.specs.Opening.{codeWith, part}
 use Rattle.opening.specs.declared.Parameters.{Parameters}
+use Rattle.code_theorems.proofs.Messages.{fits}
 use Rattle.answers.specs.Answering.{leaves}
-use Rattle.code_operations.proofs.Levels.{fits}
 use Rattle.answers.proofs.Beginning.{lengths}
 use Rattle.code_operations.proofs.Refusals.{Opens, opens-as, not-opened, buffer-refused, begun, encodeRest}
 use Rattle.code_operations.proofs.Clauses.{encode-clauses}

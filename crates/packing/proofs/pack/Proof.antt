@@ -14,12 +14,12 @@ use Rattle.definitions.specs.Codes.{Code}
 use Rattle.definitions.specs.Messages.{Message, symbolsFit}
 use Rattle.definitions.specs.Packing.{packable, byteCount, bytesOf, bitsOf}
 use Rattle.definitions.specs.PackingOperations.{openPackable, packCode}
+use Rattle.code_theorems.proofs.Messages.{fits}
 use Rattle.code_theorems.proofs.Packing.{powers}
 use Rattle.answers.specs.Answering.{leaves}
 use Rattle.answers.proofs.Beginning.{lengths, not-open, wrong-buffer, both-fit}
 use Rattle.opening.specs.Opening.{codeWith, part}
 use Rattle.opening.specs.declared.Parameters.{Parameters}
-use Rattle.code_operations.proofs.Levels.{fits}
 use Rattle.bit_reader.specs.Taking.{widthIn, Narrow, Taken}
 use Rattle.bit_reader.specs.declared.Layout.{Layout}
 use Rattle.packing.specs.Packing.{layoutOf, Fitting}

@@ -18,7 +18,6 @@ use Rattle.answers.specs.Answering.{leaves}
 use Rattle.answers.proofs.Beginning.{lengths, not-open, wrong-buffer, both-fit}
 use Rattle.opening.specs.Opening.{codeWith, part}
 use Rattle.opening.specs.declared.Parameters.{Parameters}
-use Rattle.code_operations.proofs.Levels.{fits}
 use Rattle.bit_reader.specs.Taking.{widthIn, Narrow, Taken}
 use Rattle.bit_reader.specs.declared.Layout.{Layout}
 use Rattle.packing.specs.Packing.{layoutOf, Fitting}

@@ -1,11 +1,11 @@
-use Prim.Native.Nat.{_≤_, _<_, _-_}
+use Prim.Native.Nat.{_≤_, _-_}
 use lib.ListN.{length}
 use borrow.Author.Needs.{needs}
-use Rattle.case_runner.proofs.fields.value.Statement.{statement}
-use Rattle.case_runner.proofs.fields.value.Tie as tie
+use Rattle.case_runner.proofs.fields.number.Statement.{statement}
+use Rattle.case_runner.proofs.fields.number.Tie as tie
 
 abbrev Inv-loop : tie.InvT-loop
-Inv-loop s r₀ i₀ r i = (i ≤ length s) × (r < 65536)
+Inv-loop s r₀ i₀ r i = i ≤ length s
 
 abbrev μ-loop : tie.MeasureT-loop
 μ-loop s r₀ i₀ r i = length s - i
@@ -31,6 +31,6 @@ loop-again c = search needs
 returns : tie.Need-returns Inv-loop μ-loop
 returns c = search needs
 
-pub value-spec : {M : Type 1} → statement M
-value-spec =
+pub number-spec : {M : Type 1} → statement M
+number-spec =
     tie.close (tie.spec Inv-loop μ-loop loop-holds shared-slice-read-with-digit with-digit-requires add-i loop-less loop-again returns)
