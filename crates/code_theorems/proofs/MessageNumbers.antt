@@ -16,7 +16,7 @@ use Rattle.definitions.specs.Codes.{Code, dataCells}
 use Rattle.definitions.specs.Messages.{Message, symbolsFit, encode}
 use Rattle.definitions.specs.CodeOperations.{openCode, encodeCode}
 use Rattle.definitions.specs.Packing.{radix}
-use Rattle.definitions.specs.MessageNumbers.{symbolValue, radixProduct, messageNumber, numberMessage, NumbersOneToOne}
+use Rattle.definitions.specs.MessageNumbers.{placeValue, radixProduct, messageNumber, numberMessage, NumbersOneToOne}
 use Rattle.definitions.specs.MessageNumberOperations.{openNumbered, messageOfNumber, numberOfMessage, MessageMade, NumberMade}
 use Rattle.word_laws.proofs.Cells.{sum-same, at-upFrom, length-upFrom}
 use Rattle.word_laws.proofs.MixedRadix.{quotient-positive, made-below, digit-made, made-digits}
@@ -28,22 +28,22 @@ use Rattle.code_theorems.proofs.Opened.{opened}
 
 module _ (p : Code) where
   -- the place values are the products of the radices
-  pub value-next : (i : ℕ) → symbolValue p (suc i) ≡ radix p i * symbolValue p i
-  value-next i = mul-comm (symbolValue p i) (radix p i)
+  pub value-next : (i : ℕ) → placeValue p (suc i) ≡ radix p i * placeValue p i
+  value-next i = mul-comm (placeValue p i) (radix p i)
 
   pub number-long : (x : ℕ) → length (numberMessage p x) ≡ p .n
   unfolding numberMessage
-  number-long x = length-map (upFrom 0 (p .n)) (λ i. x / symbolValue p i % radix p i) ∙ length-upFrom 0 (p .n)
+  number-long x = length-map (upFrom 0 (p .n)) (λ i. x / placeValue p i % radix p i) ∙ length-upFrom 0 (p .n)
 
-  pub number-at : (x i : ℕ) → i < p .n → at (numberMessage p x) i ≡ x / symbolValue p i % radix p i
+  pub number-at : (x i : ℕ) → i < p .n → at (numberMessage p x) i ≡ x / placeValue p i % radix p i
   unfolding numberMessage
   number-at x i h =
-      at-upFrom (λ i. x / symbolValue p i % radix p i) 0 (p .n) i h ∙ ap (λ (k : ℕ). x / symbolValue p k % radix p k) (zero-add i)
+      at-upFrom (λ i. x / placeValue p i % radix p i) 0 (p .n) i h ∙ ap (λ (k : ℕ). x / placeValue p k % radix p k) (zero-add i)
 
   -- a message's number is below the product
   number-below : (s : List ℕ) → Message p s → messageNumber p s < radixProduct p
   unfolding messageNumber radixProduct
-  number-below s m = made-below (radix p) (symbolValue p) refl value-next (at s) (p .n) (below-radix p s m)
+  number-below s m = made-below (radix p) (placeValue p) refl value-next (at s) (p .n) (below-radix p s m)
 
   -- message to number to message
   message-again : (s : List ℕ) → Message p s → numberMessage p (messageNumber p s) ≡ s
@@ -52,7 +52,7 @@ module _ (p : Code) where
       ext-getD 0 (numberMessage p (messageNumber p s)) s (number-long (messageNumber p s) ∙ sym (m .long)) (λ i h.
       let l = number-long (messageNumber p s) in
       let g : i < p .n = omega arith in
-      number-at (messageNumber p s) i g ∙ digit-made (radix p) (symbolValue p) refl value-next (at s) (p .n) (below-radix p s m) i g)
+      number-at (messageNumber p s) i g ∙ digit-made (radix p) (placeValue p) refl value-next (at s) (p .n) (below-radix p s m) i g)
 
   module _ (hM : 0 < p .M) (hq : p .M ≤ p .q) where
     pub radix-positive : (i : ℕ) → 0 < radix p i
@@ -64,15 +64,15 @@ module _ (p : Code) where
 
     number-message : (x : ℕ) → Message p (numberMessage p x)
     number-message x =
-        radix-below p (numberMessage p x) (number-long x) (λ i h. rw (number-at x i h) (mod-lt (x / symbolValue p i) (radix-positive i)))
+        radix-below p (numberMessage p x) (number-long x) (λ i h. rw (number-at x i h) (mod-lt (x / placeValue p i) (radix-positive i)))
 
     -- number to message to number
     number-back : (x : ℕ) → x < radixProduct p → messageNumber p (numberMessage p x) ≡ x
     unfolding messageNumber radixProduct
     number-back x h =
-        sum-same (p .n) (λ i. at (numberMessage p x) i * symbolValue p i) (λ i. x / symbolValue p i % radix p i * symbolValue p i)
-        (λ i g. ap (λ (v : ℕ). v * symbolValue p i) (number-at x i g))
-        ∙ made-digits (radix p) (symbolValue p) refl value-next radix-positive x (p .n) ∙ mod-eq-of-lt h
+        sum-same (p .n) (λ i. at (numberMessage p x) i * placeValue p i) (λ i. x / placeValue p i % radix p i * placeValue p i)
+        (λ i g. ap (λ (v : ℕ). v * placeValue p i) (number-at x i g))
+        ∙ made-digits (radix p) (placeValue p) refl value-next radix-positive x (p .n) ∙ mod-eq-of-lt h
 
     pub numbers-messages : NumbersOneToOne p
     numbers-messages = record {

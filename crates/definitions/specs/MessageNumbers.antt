@@ -12,9 +12,9 @@ abbrev pub productTo : ℕ → (ℕ → ℕ) → ℕ
 productTo zero f = 1
 productTo (suc n) f = productTo n f * f n
 
--- "the first symbol is the least significant, each cell has its own radix": what 1 in the symbol of cell i + 1 is worth
-abbrev pub symbolValue : Code → ℕ → ℕ
-symbolValue p i = productTo i (radix p)
+-- the place value of the symbol of cell i + 1: "the first symbol is the least significant, each cell has its own radix"
+abbrev pub placeValue : Code → ℕ → ℕ
+placeValue p i = productTo i (radix p)
 
 -- "the product of the radices"
 unfoldable pub radixProduct : Code → ℕ
@@ -22,11 +22,11 @@ radixProduct p = productTo (p .n) (radix p)
 
 -- the number of a message
 unfoldable pub messageNumber : Code → List ℕ → ℕ
-messageNumber p s = sumTo (p .n) (λ i. at s i * symbolValue p i)
+messageNumber p s = sumTo (p .n) (λ i. at s i * placeValue p i)
 
 -- the message of a number
 unfoldable pub numberMessage : Code → ℕ → List ℕ
-numberMessage p x = map (λ i. x / symbolValue p i % radix p i) (upFrom 0 (p .n))
+numberMessage p x = map (λ i. x / placeValue p i % radix p i) (upFrom 0 (p .n))
 
 -- numbers below the product and messages correspond one to one
 pub record NumbersOneToOne (p : Code) : Type 0 where

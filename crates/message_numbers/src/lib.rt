@@ -144,18 +144,18 @@ pub fn message_of_number(body: &[u8], x: u64, out: &mut [u8]) -> WriteAnswer
     WriteAnswer::Written
 }
 
-// The sum of the symbols' values.
+// Each symbol times its place value, added up.
 fn number_from(p: Parameters, message: &[u8]) -> u64
     requires radices { ⌜ Radices p ⌝ }
     requires fits { ⌜ ((A : List ℕ) × Message (codeWith p A) (now message) × (radixProduct (codeWith p A) ≤ 2 ^ 63)) ⌝ }
     ensures { λ x. ⌜ ((A : List ℕ) → x ≡ messageNumber (codeWith p A) (now (message .entry))) ⌝ }
 {
     let mut x = 0;
-    let mut value = 1;
+    let mut place_value = 1;
     let mut i = 0;
     while i < message.len() {
-        x = x + byte_helpers::long(message[i]) * value;
-        value = value * radix_at(p, i);
+        x = x + byte_helpers::long(message[i]) * place_value;
+        place_value = place_value * radix_at(p, i);
         i += 1;
     }
     x

@@ -8,7 +8,7 @@ use denote.Ref.{now}
 use borrow.Author.Needs.{needs}
 use Rattle.definitions.specs.Words.{at, sumTo}
 use Rattle.definitions.specs.Codes.{Code}
-use Rattle.definitions.specs.MessageNumbers.{symbolValue, messageNumber}
+use Rattle.definitions.specs.MessageNumbers.{placeValue, messageNumber}
 use Rattle.opening.specs.Opening.{codeWith}
 use Rattle.opening.specs.declared.Parameters.{Parameters}
 use Rattle.message_numbers.proofs.Symbols.{value-within, sum-within}
@@ -20,17 +20,19 @@ abbrev code : Parameters → Code
 code p = codeWith p []
 
 abbrev Inv-loop : tie.InvT-loop
-Inv-loop p message x₀ value₀ i₀ x value i =
-    (i ≤ length message) × (x ≡ sumTo i (λ j. at message j * symbolValue (code p) j)) × (value ≡ symbolValue (code p) i)
+Inv-loop p message x₀ place-value₀ i₀ x place-value i =
+    (i ≤ length message) × (x ≡ sumTo i (λ j. at message j * placeValue (code p) j)) × (place-value ≡ placeValue (code p) i)
 
 abbrev μ-loop : tie.MeasureT-loop
-μ-loop p message x₀ value₀ i₀ x value i = length message - i
+μ-loop p message x₀ place-value₀ i₀ x place-value i = length message - i
 
--- what the loop adds up to at cell i + 1 stays within 2^63, and so does the value of the next symbol
 abbrev given-code : tie.Start Inv-loop μ-loop → Code
 given-code c = codeWith (c .args .p) (c .pre .1 .0)
 
-sum-next : (c : tie.After-long Inv-loop μ-loop) → c .before .before .before .loop .x + c .long .result * c .before .before .before .loop .value < 2 ^ 63
+-- what the loop adds up to at cell i + 1 stays below 2^63, and the next place value stays within it
+sum-next :
+    (c : tie.After-long Inv-loop μ-loop)
+    → c .before .before .before .loop .x + c .long .result * c .before .before .before .loop .place-value < 2 ^ 63
 sum-next c =
     let s = c .before .before .before .before .before in
     let l = c .before .before .before .loop in
@@ -38,8 +40,8 @@ sum-next c =
     rw (l .inv .1, l .inv .2, c .long .ensures .0)
     (sum-within (given-code s) (omega (arith, s .pre .0 .m-low)) (s .pre .0 .m-high) within (now (s .args .message)) m (l .i) (omega (arith, m .long)))
 
-value-next : (c : tie.After-radix-at Inv-loop μ-loop) → c .before .before .before .before .loop .value * c .radix-at .result ≤ 2 ^ 63
-value-next c =
+place-next : (c : tie.After-radix-at Inv-loop μ-loop) → c .before .before .before .before .loop .place-value * c .radix-at .result ≤ 2 ^ 63
+place-next c =
     let s = c .before .before .before .before .before .before in
     let l = c .before .before .before .before .loop in
     let (_, m, within) = s .pre .1 in
@@ -64,8 +66,8 @@ add-x c = omega (arith, sum-next c)
 radix-at-requires : tie.Need-radix-at-requires Inv-loop μ-loop
 radix-at-requires c κs = c .before .before .before .before .before .pre .0
 
-mul-value : tie.Need-mul-value Inv-loop μ-loop
-mul-value c = omega (arith, value-next c)
+mul-place-value : tie.Need-mul-place-value Inv-loop μ-loop
+mul-place-value c = omega (arith, place-next c)
 
 add-i : tie.Need-add-i Inv-loop μ-loop
 add-i c = search needs
@@ -88,7 +90,7 @@ returns c A =
     let l = c .before .loop in
     let (_, m, _) = s .pre .1 in
     let e : l .i ≡ s .args .p .n = omega (arith, m .long) in
-    l .inv .1 ∙ ap (λ (k : ℕ). sumTo k (λ j. at (now (s .args .message)) j * symbolValue (code (s .args .p)) j)) e
+    l .inv .1 ∙ ap (λ (k : ℕ). sumTo k (λ j. at (now (s .args .message)) j * placeValue (code (s .args .p)) j)) e
 
 pub number-from-spec : {M : Type 1} → statement M
 number-from-spec =
@@ -102,7 +104,7 @@ number-from-spec =
     mul-x
     add-x
     radix-at-requires
-    mul-value
+    mul-place-value
     add-i
     loop-less
     loop-again

@@ -7,7 +7,7 @@ use lib.ListN.{length, length-set}
 use denote.Ref.{now}
 use borrow.Author.Needs.{needs}
 use Rattle.definitions.specs.Codes.{Code}
-use Rattle.definitions.specs.MessageNumbers.{symbolValue, numberMessage}
+use Rattle.definitions.specs.MessageNumbers.{placeValue, numberMessage}
 use Rattle.code_theorems.proofs.MessageNumbers.{number-long, number-at}
 use Rattle.opening.specs.Opening.{codeWith}
 use Rattle.opening.specs.declared.Parameters.{Parameters}
@@ -22,7 +22,7 @@ code p = codeWith p []
 
 abbrev Inv-loop : tie.InvT-loop
 Inv-loop p x out₀ rest₀ i₀ out rest i =
-    (i ≤ length out₀) × (length out ≡ length out₀) × (out ≡ storedTo i (numberMessage (code p) x) out₀) × (rest ≡ x / symbolValue (code p) i)
+    (i ≤ length out₀) × (length out ≡ length out₀) × (out ≡ storedTo i (numberMessage (code p) x) out₀) × (rest ≡ x / placeValue (code p) i)
 
 abbrev μ-loop : tie.MeasureT-loop
 μ-loop p x out₀ rest₀ i₀ out rest i = length out₀ - i
