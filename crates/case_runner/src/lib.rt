@@ -3,8 +3,8 @@
 //     decode 5 4 8 2 1 2  1 1 1 1 / 4 5 3 2 1 / 5
 //
 // is the operation's word, what it takes (body, input), and last the length of the output, which holds 9s before the
-// call. The answer is followed by what the output holds after the call: `count 2: 3 5 3 1 1`. A line that is empty or
-// starts with # is printed as it is.
+// call. The input of message_of_number is one number. The answer is followed by what the output holds after the call:
+// `count 2: 3 5 3 1 1`. A line that is empty or starts with # is printed as it is.
 mod code_cases;
 mod fields;
 mod image_cases;

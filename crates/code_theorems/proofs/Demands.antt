@@ -38,7 +38,7 @@ tested-by false P f g = record {
 }
 
 module _ (b : List ℕ) (p : Code) (opens : openCode b ≡ given p) where
-  one-to-one : OneToOne (ofCode p)
+  pub one-to-one : OneToOne (ofCode p)
   one-to-one = let (_, h) = opened b p opens in messages-codewords p (omega (arith, h .range .r-below)) (omega (arith, h .range .m-low))
 
   -- demand 1, of the test
@@ -63,7 +63,7 @@ module _ (b : List ℕ) (p : Code) (opens : openCode b ≡ given p) where
       subst (λ (r : Result (Unit {0})). OneCodeword (ofCode p) s (r .answer) (r .out)) (sym (encodes s out m lo)) (one-codeword (ofCode p) one-to-one s m)
 
   -- demand 2, of recovery
-  recovers : (c out : List ℕ) → Codeword p c → length out ≡ p .n → recoverCode b c out ≡ record { answer = given tt; out = message p c }
+  pub recovers : (c out : List ℕ) → Codeword p c → length out ≡ p .n → recoverCode b c out ≡ record { answer = given tt; out = message p c }
   unfolding recoverCode
   recovers c out h lo =
       rw (

@@ -10,11 +10,14 @@ use lib.Dec.{T, eqb, ltb, eqb→eq, ltb→lt}
 use lib.ListN.{length, length-map}
 use lib.Seq.{ext-getD}
 use borrow.Author.Tests.{eq-eqb, lt-ltb, le-ltb}
-use Rattle.definitions.specs.Words.{at, upFrom}
+use Rattle.definitions.specs.Words.{at, upFrom, EachCell}
 use Rattle.definitions.specs.Answers.{Answer, given, refused, refuse_when_else_, result, number}
 use Rattle.definitions.specs.Codes.{Code, dataCells}
+use Rattle.definitions.specs.Codewords.{Codeword}
+use Rattle.definitions.specs.Acceptance.{Accepted}
 use Rattle.definitions.specs.Messages.{Message, symbolsFit, encode}
-use Rattle.definitions.specs.CodeOperations.{openCode, encodeCode}
+use Rattle.definitions.specs.CodeOperations.{openCode, encodeCode, decodeCode, recoverCode}
+use Rattle.definitions.specs.Reach.{Reach}
 use Rattle.definitions.specs.Packing.{radix}
 use Rattle.definitions.specs.MessageNumbers.{placeValue, radixProduct, messageNumber, numberMessage, NumbersOneToOne}
 use Rattle.definitions.specs.MessageNumberOperations.{openNumbered, messageOfNumber, numberOfMessage, MessageMade, NumberMade}
@@ -25,6 +28,7 @@ use Rattle.code_theorems.proofs.Messages.{symbols-pass, fits}
 use Rattle.code_theorems.proofs.Packing.{below-radix, radix-below}
 use Rattle.code_theorems.proofs.Refusals.{is-true, not-refused, passed, after-given}
 use Rattle.code_theorems.proofs.Opened.{opened}
+use Rattle.code_theorems.proofs.Demands.{one-to-one, recovers, decode-keeps}
 
 module _ (p : Code) where
   -- the place values are the products of the radices
@@ -94,8 +98,8 @@ module _ (b : List ℕ) (p : Code) (opens : openCode b ≡ given p) where
 
   -- the operations, for a code whose product is at most 2^63
   module _ (within : radixProduct p ≤ 2 ^ 63) where
-    one-to-one : NumbersOneToOne p
-    one-to-one = let (_, h) = opened b p opens in numbers-messages p (omega (arith, h .range .m-low)) (h .range .m-high)
+    numbered : NumbersOneToOne p
+    numbered = let (_, h) = opened b p opens in numbers-messages p (omega (arith, h .range .m-low)) (h .range .m-high)
 
     begins : (k : ℕ) → k ≡ p .n → openNumbered b k ≡ given p
     unfolding openNumbered
@@ -145,13 +149,13 @@ module _ (b : List ℕ) (p : Code) (opens : openCode b ≡ given p) where
     pub message-demand : (x : ℕ) (out : List ℕ) → x < radixProduct p → length out ≡ p .n
         → MessageMade b p x (messageOfNumber b x out .answer) (messageOfNumber b x out .out)
     message-demand x out h lo =
-        let m = one-to-one .isMessage x h in
+        let m = numbered .isMessage x h in
         rw (makes-message x out h lo) (record {
           made = refl;
           isMessage = m;
           writable = not-9 (numberMessage p x) m;
-          back = makes-number (numberMessage p x) m ∙ ap {B = Answer ℕ} given (one-to-one .back x h);
-          only = λ s e. let (g, y) = number-given s x e in sym (one-to-one .again s g) ∙ ap (numberMessage p) y;
+          back = makes-number (numberMessage p x) m ∙ ap {B = Answer ℕ} given (numbered .back x h);
+          only = λ s e. let (g, y) = number-given s x e in sym (numbered .again s g) ∙ ap (numberMessage p) y;
         })
 
     pub number-demand : (s : List ℕ) → Message p s → NumberMade b p s (numberOfMessage b s)
@@ -159,7 +163,26 @@ module _ (b : List ℕ) (p : Code) (opens : openCode b ≡ given p) where
         record {
           x = messageNumber p s;
           made = makes-number s m;
-          below = one-to-one .below s m;
-          back = λ out lo. makes-message (messageNumber p s) out (one-to-one .below s m) lo ∙ (let e = one-to-one .again s m in rw e);
-          only = λ y out e. let (h, g) = message-given y out s e in sym (one-to-one .back y h) ∙ ap (messageNumber p) g;
+          below = numbered .below s m;
+          back = λ out lo. makes-message (messageNumber p s) out (numbered .below s m) lo ∙ (let e = numbered .again s m in rw e);
+          only = λ y out e. let (h, g) = message-given y out s e in sym (numbered .back y h) ∙ ap (messageNumber p) g;
         }
+
+    -- a number whose message was written comes back from every word within reach: decoded, its message recovered, and that one's number
+    pub number-kept :
+        Accepted p
+        → (x : ℕ)
+        → x < radixProduct p
+        → (y out lent : List ℕ)
+        → length y ≡ p .n
+        → length out ≡ p .n
+        → length lent ≡ p .n
+        → EachCell (λ v. v < p .q) y
+        → Reach p y (encode p (numberMessage p x))
+        → numberOfMessage b (recoverCode b (decodeCode b y out .out) lent .out) ≡ given x
+    number-kept fit x h y out lent ly lo ll levels near =
+        let m = numbered .isMessage x h in
+        let (_, back, carried) = decode-keeps b p opens y out ly lo levels fit .kept (numberMessage p x) m near in
+        let codeword = subst (Codeword p) (sym back) (one-to-one b p opens .codeword (numberMessage p x) m) in
+        let recovered = ap (λ r. r .out) (recovers b p opens (decodeCode b y out .out) lent codeword ll) ∙ carried in
+        ap (numberOfMessage b) recovered ∙ makes-number (numberMessage p x) m ∙ ap {B = Answer ℕ} given (numbered .back x h)

@@ -23,7 +23,7 @@ const LARGEST: u64 = 9223372036854775808;
 
 // x times k, so many times, with a stop before it would go past 2^63: what is larger becomes 2^63 + 1.
 fn multiplied(x: u64, k: u64, times: usize) -> u64
-    requires { ⌜ (1 ≤ k) × (k ≤ 64) × (x ≤ 2 ^ 63 + 1) ⌝ }
+    requires { ⌜ (1 ≤ k) × (x ≤ 2 ^ 63 + 1) ⌝ }
     ensures { λ y. ⌜ y ≡ stopped (x * k ^ times) ⌝ }
 {
     let bound = LARGEST / k;
@@ -56,8 +56,7 @@ fn radix_at(p: Parameters, i: usize) -> u64
     if i < p.n - p.r {
         return p.q as u64;
     }
-    let narrow = p.q / p.m;
-    narrow as u64
+    (p.q / p.m) as u64
 }
 
 // A code whose messages have numbers, with the product of its radices; or the refusal.

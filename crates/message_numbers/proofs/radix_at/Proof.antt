@@ -15,8 +15,8 @@ returns c =
     let s = c .before .before in
     ((λ A. rw (lt-ltb (s .args .i) (s .args .p .n - s .args .p .r) (omega arith))), search needs, search needs)
 
-div-narrow : tie.Need-div-narrow
-div-narrow c = search needs
+div-result : tie.Need-div-result
+div-result c = search needs
 
 returns-2 : tie.Need-returns-2
 returns-2 c =
@@ -28,4 +28,4 @@ returns-2 c =
     )
 
 pub radix-at-spec : {M : Type 1} → statement M
-radix-at-spec = tie.close (tie.spec sub-if1 returns div-narrow returns-2)
+radix-at-spec = tie.close (tie.spec sub-if1 returns div-result returns-2)

@@ -1,6 +1,5 @@
 use mathlib.Core.Path.{sym, subst}
 use Prim.Native.Nat.{ℕ, _+_, _*_, _-_, _/_, _^_, _≤_}
-use native.Mathlib.Nat.{div-le-self}
 use native.Mathlib.Omega.{arith}
 use borrow.Author.Needs.{needs}
 use Rattle.word_laws.proofs.MixedRadix.{quotient-positive}
@@ -25,11 +24,7 @@ multiplied-requires-2 : tie.Need-multiplied-requires-2
 multiplied-requires-2 c κs =
     let s = c .before .before .before in
     let p = s .args .p in
-    let h = div-le-self (p .q) (p .m) in (
-      positive s,
-      omega arith,
-      subst (λ (y : ℕ). y ≤ 2 ^ 63 + 1) (sym (c .before .multiplied .ensures)) (at-most (1 * p .q ^ (p .n - p .r))),
-    )
+    (positive s, subst (λ (y : ℕ). y ≤ 2 ^ 63 + 1) (sym (c .before .multiplied .ensures)) (at-most (1 * p .q ^ (p .n - p .r))))
 
 returns : tie.Need-returns
 returns c A =
