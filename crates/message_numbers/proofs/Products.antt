@@ -1,5 +1,6 @@
 -- Products with a stop, and the product of the radices in two parts.
 use mathlib.Core.Path.{_≡_, sym, ap, _∙_}
+use mathlib.Core.Logic.{_⊎_, inl, inr, ⊎-elim}
 use Prim.Native.Nat.{ℕ, zero, suc, _+_, _*_, _-_, _/_, _^_, _≤_, _<_}
 use native.Mathlib.Nat.{add-zero, add-suc, one-mul, mul-one, mul-assoc, pow-zero, pow-suc, one-le-pow, pow-le-pow-right}
 use native.Mathlib.Nat.{lt-of-lt-of-le, mul-le-mul-left, le-mul-of-pos-right, le-div-iff-mul-le, div-lt-iff-lt-mul}
@@ -12,41 +13,34 @@ use Rattle.definitions.specs.Packing.{radix}
 use Rattle.definitions.specs.MessageNumbers.{productTo, radixProduct}
 use Rattle.message_numbers.specs.Numbering.{stopped}
 
-pub stops : (z : ℕ) → 2 ^ 63 < z → 2 ^ 63 + 1 ≡ stopped z
-stops z h = rw (lt-ltb (2 ^ 63) z h)
-
-pub goes-on : (z : ℕ) → z ≤ 2 ^ 63 → z ≡ stopped z
-goes-on z h = rw (le-ltb (2 ^ 63) z h)
-
-pub at-most : (z : ℕ) → stopped z ≤ 2 ^ 63 + 1
-at-most z = step (decLt (2 ^ 63) z)
+-- a product that stopped, and one that did not
+stopped-is : (z : ℕ) → ((2 ^ 63 < z) × (stopped z ≡ 2 ^ 63 + 1)) ⊎ ((z ≤ 2 ^ 63) × (stopped z ≡ z))
+stopped-is z = step (decLt (2 ^ 63) z)
   where
-    step : Dec (2 ^ 63 < z) → stopped z ≤ 2 ^ 63 + 1
-    step (yes g) = let e = stops z g in omega (arith, e)
-    step (no g) = let e = goes-on z (omega arith) in omega (arith, e)
+    step : Dec (2 ^ 63 < z) → ((2 ^ 63 < z) × (stopped z ≡ 2 ^ 63 + 1)) ⊎ ((z ≤ 2 ^ 63) × (stopped z ≡ z))
+    step (yes h) = inl (h, rw (lt-ltb (2 ^ 63) z h))
+    step (no h) = inr (omega arith, rw (le-ltb (2 ^ 63) z (omega arith)))
 
--- what the stop tells of the product
-pub above : (z : ℕ) → 2 ^ 63 < stopped z → 2 ^ 63 < z
-above z h = step (decLt (2 ^ 63) z)
-  where
-    step : Dec (2 ^ 63 < z) → 2 ^ 63 < z
-    step (yes g) = g
-    step (no g) = let e = goes-on z (omega arith) in omega (arith, e)
+module _ (z : ℕ) where
+  pub stops : 2 ^ 63 < z → 2 ^ 63 + 1 ≡ stopped z
+  stops h = ⊎-elim (λ a. sym (a .1)) (λ a. absurd (omega (arith, a .0))) (stopped-is z)
 
-pub below : (z : ℕ) → stopped z ≤ 2 ^ 63 → z ≤ 2 ^ 63
-below z h = step (decLt (2 ^ 63) z)
-  where
-    step : Dec (2 ^ 63 < z) → z ≤ 2 ^ 63
-    step (yes g) = let e = stops z g in absurd (omega (arith, e))
-    step (no g) = omega arith
+  pub goes-on : z ≤ 2 ^ 63 → z ≡ stopped z
+  goes-on h = ⊎-elim (λ a. absurd (omega (arith, a .0))) (λ a. sym (a .1)) (stopped-is z)
 
--- where it stopped already, and where it did not
-pub reached : (z : ℕ) → z ≤ 2 ^ 63 + 1 → z ≡ stopped z
-reached z h = step (decLt (2 ^ 63) z)
-  where
-    step : Dec (2 ^ 63 < z) → z ≡ stopped z
-    step (yes g) = let e : z ≡ 2 ^ 63 + 1 = omega arith in e ∙ stops z g
-    step (no g) = goes-on z (omega arith)
+  -- what is stopped once stays so
+  pub reached : z ≤ 2 ^ 63 + 1 → z ≡ stopped z
+  reached h = ⊎-elim (λ a. omega (arith, a .0, a .1)) (λ a. sym (a .1)) (stopped-is z)
+
+  pub at-most : stopped z ≤ 2 ^ 63 + 1
+  at-most = ⊎-elim (λ a. omega (arith, a .1)) (λ a. omega (arith, a .0, a .1)) (stopped-is z)
+
+  -- what the stop tells of the product
+  pub above : 2 ^ 63 < stopped z → 2 ^ 63 < z
+  above h = ⊎-elim (λ a. a .0) (λ a. absurd (omega (arith, a .0, a .1))) (stopped-is z)
+
+  pub below : stopped z ≤ 2 ^ 63 → z ≤ 2 ^ 63
+  below h = ⊎-elim (λ a. absurd (omega (arith, a .1))) (λ a. a .0) (stopped-is z)
 
 module _ (k : ℕ) (positive : 1 ≤ k) where
   pub once-more : (x y i : ℕ) → y ≡ x * k ^ i → y * k ≡ x * k ^ (i + 1)
