@@ -101,7 +101,7 @@ module _ (b : List ℕ) (p : Code) (opens : openCode b ≡ given p) where
     numbered : NumbersOneToOne p
     numbered = let (_, h) = opened b p opens in numbers-messages p (omega (arith, h .range .m-low)) (h .range .m-high)
 
-    begins : (k : ℕ) → k ≡ p .n → openNumbered b k ≡ given p
+    pub begins : (k : ℕ) → k ≡ p .n → openNumbered b k ≡ given p
     unfolding openNumbered
     begins k e = rw (opens, eq-eqb k (p .n) e, le-ltb (2 ^ 63) (radixProduct p) within)
 

@@ -1,9 +1,9 @@
 -- What both operations begin with, and from their equations to their clauses.
 use mathlib.Core.Path.{_≡_, sym, subst}
 use mathlib.Core.List.{List}
-use Prim.Native.Nat.{ℕ, _^_, _≤_, _<_}
+use Prim.Native.Nat.{ℕ, _^_, _<_}
 use lib.ListN.{length}
-use borrow.Author.Tests.{eq-eqb, ne-eqb, lt-ltb, le-ltb}
+use borrow.Author.Tests.{eq-eqb, ne-eqb, lt-ltb}
 use Rattle.definitions.specs.Answers.{Answer, given, refused, refuse_when_else_}
 use Rattle.definitions.specs.Codes.{Code}
 use Rattle.definitions.specs.CodeOperations.{openCode}
@@ -17,7 +17,7 @@ use Rattle.opening.specs.Opening.{Place}
 use Rattle.opening.specs.declared.Parameters.{Parameters}
 use Rattle.message_numbers.specs.Numbering.{Radices, WhereNumber, WhereMessage}
 
--- "open; 8; 17"
+-- the refusals of "open; 8; 17"
 module _ (b : List ℕ) (k : ℕ) where
   pub begin-refused : (y : Refusal) → openCode b ≡ refusedAs y → openNumbered b k ≡ refusedAs y
   unfolding openNumbered
@@ -31,10 +31,6 @@ module _ (b : List ℕ) (k : ℕ) where
     pub begin-product : k ≡ p .n → 2 ^ 63 < radixProduct p → openNumbered b k ≡ refused 17
     unfolding openNumbered
     begin-product e h = rw (opens, eq-eqb k (p .n) e, lt-ltb (2 ^ 63) (radixProduct p) h)
-
-    pub begin-given : k ≡ p .n → radixProduct p ≤ 2 ^ 63 → openNumbered b k ≡ given p
-    unfolding openNumbered
-    begin-given e h = rw (opens, eq-eqb k (p .n) e, le-ltb (2 ^ 63) (radixProduct p) h)
 
 pub radices : {b : List ℕ} {p : Parameters} {start end : ℕ} → Place b p start end → Radices p
 radices o = let h = o .ready in record { r = h .r-below; q = h .q-high; m-low = h .m-low; m-high = h .m-high }

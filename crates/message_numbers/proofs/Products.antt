@@ -42,10 +42,10 @@ module _ (z : ℕ) where
   pub below : stopped z ≤ 2 ^ 63 → z ≤ 2 ^ 63
   below h = ⊎-elim (λ a. absurd (omega (arith, a .1))) (λ a. a .0) (stopped-is z)
 
-module _ (k : ℕ) (positive : 1 ≤ k) where
-  pub once-more : (x y i : ℕ) → y ≡ x * k ^ i → y * k ≡ x * k ^ (i + 1)
-  once-more x y i e = rw (e, add-one, pow-suc k i) (mul-assoc x (k ^ i) k)
+pub once-more : (k x y i : ℕ) → y ≡ x * k ^ i → y * k ≡ x * k ^ (i + 1)
+once-more k x y i e = rw (e, add-one, pow-suc k i) (mul-assoc x (k ^ i) k)
 
+module _ (k : ℕ) (positive : 1 ≤ k) where
   -- below the bound the next product is within 2^63
   pub next-within : (y : ℕ) → y ≤ 2 ^ 63 / k → y * k ≤ 2 ^ 63
   next-within y h = le-div-iff-mul-le {k = k} (omega arith) .0 h
@@ -55,7 +55,7 @@ module _ (k : ℕ) (positive : 1 ≤ k) where
   past x y i times e h g =
       let a : 2 ^ 63 < y * k = div-lt-iff-lt-mul {k = k} (omega arith) .0 g in
       let b : x * k ^ (i + 1) ≤ x * k ^ times = mul-le-mul-left x (pow-le-pow-right (omega arith) (omega arith)) in
-      stops (x * k ^ times) (lt-of-lt-of-le a (rw (once-more x y i e) b))
+      stops (x * k ^ times) (lt-of-lt-of-le a (rw (once-more k x y i e) b))
 
 -- a product that stopped goes on as the product would
 pub stopped-on : (a b : ℕ) → 1 ≤ b → stopped (stopped a * b) ≡ stopped (a * b)

@@ -1,6 +1,6 @@
 -- What stays below the product while symbols are added up, and what is left of a number while its symbols are taken.
 use mathlib.Core.Path.{_≡_, refl}
-use mathlib.Core.List.{List}
+use mathlib.Core.List.{List, []}
 use Prim.Native.Nat.{ℕ, suc, _+_, _*_, _/_, _^_, _≤_, _<_}
 use native.Mathlib.Nat.{lt-of-lt-of-le, le-trans, div-div-eq-div-mul}
 use native.Mathlib.Numerals.{add-one}
@@ -13,6 +13,12 @@ use Rattle.definitions.specs.MessageNumbers.{placeValue, radixProduct}
 use Rattle.word_laws.proofs.MixedRadix.{made-below, place-rises}
 use Rattle.code_theorems.proofs.Packing.{below-radix}
 use Rattle.code_theorems.proofs.MessageNumbers.{value-next, radix-positive}
+use Rattle.opening.specs.Opening.{codeWith}
+use Rattle.opening.specs.declared.Parameters.{Parameters}
+
+-- the radices do not depend on the matrix
+abbrev pub code : Parameters → Code
+code p = codeWith p []
 
 module _ (p : Code) (hM : 0 < p .M) (hq : p .M ≤ p .q) (within : radixProduct p ≤ 2 ^ 63) where
   -- the place value after cell i + 1

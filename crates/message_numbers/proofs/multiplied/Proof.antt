@@ -46,7 +46,7 @@ loop-again c =
     let s = c .before .before .before in
     let l = c .before .before .loop in
     let h = next-within (s .args .k) (s .pre .0) (l .y) (omega arith) in
-    (search needs, once-more (s .args .k) (s .pre .0) (s .args .x) (l .y) (l .i) (l .inv .1), omega (arith, h))
+    (search needs, once-more (s .args .k) (s .args .x) (l .y) (l .i) (l .inv .1), omega (arith, h))
 
 returns-2 : tie.Need-returns-2 Inv-loop μ-loop
 returns-2 c =

@@ -10,14 +10,9 @@ use Rattle.definitions.specs.Words.{at, sumTo}
 use Rattle.definitions.specs.Codes.{Code}
 use Rattle.definitions.specs.MessageNumbers.{placeValue, messageNumber}
 use Rattle.opening.specs.Opening.{codeWith}
-use Rattle.opening.specs.declared.Parameters.{Parameters}
-use Rattle.message_numbers.proofs.Symbols.{value-within, sum-within}
+use Rattle.message_numbers.proofs.Symbols.{code, value-within, sum-within}
 use Rattle.message_numbers.proofs.number_from.Statement.{statement}
 use Rattle.message_numbers.proofs.number_from.Tie as tie
-
--- the radices do not depend on the matrix
-abbrev code : Parameters → Code
-code p = codeWith p []
 
 abbrev Inv-loop : tie.InvT-loop
 Inv-loop p message x₀ place-value₀ i₀ x place-value i =

@@ -6,12 +6,13 @@ use denote.Ref.{now}
 use borrow.Author.Needs.{needs}
 use Rattle.definitions.specs.Codes.{Code}
 use Rattle.definitions.specs.MessageNumbers.{radixProduct}
+use Rattle.code_theorems.proofs.MessageNumbers.{begins}
 use Rattle.opening.specs.Opening.{codeWith, part}
 use Rattle.opening.specs.declared.Parameters.{Parameters}
 use Rattle.code_operations.proofs.Refusals.{Opens, opens-as, opening-refused}
 use Rattle.message_numbers.specs.Numbering.{stopped}
 use Rattle.message_numbers.proofs.Products.{goes-on, above, below}
-use Rattle.message_numbers.proofs.Operations.{begin-refused, begin-length, begin-product, begin-given, radices}
+use Rattle.message_numbers.proofs.Operations.{begin-refused, begin-length, begin-product, radices}
 use Rattle.message_numbers.proofs.open_numbered.Statement.{statement}
 use Rattle.message_numbers.proofs.open_numbered.Tie as tie
 
@@ -89,7 +90,7 @@ returns-4 c =
     let h = below (radixProduct (code k)) (subst (λ (y : ℕ). y ≤ 2 ^ 63) e (omega arith)) in
     record {
       matrix = matrix k;
-      code = begin-given (description (start k)) (start k .args .symbols) (code k) (opens k .code) (c .before .before .if1 .left) h;
+      code = begins (description (start k)) (code k) (opens k .code) h (start k .args .symbols) (c .before .before .if1 .left);
       radices = radices (opens k .place);
       long = c .before .before .if1 .left;
       product-is = e ∙ sym (goes-on (radixProduct (code k)) h);

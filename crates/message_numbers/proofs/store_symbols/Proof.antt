@@ -6,19 +6,12 @@ use native.Mathlib.Omega.{arith}
 use lib.ListN.{length, length-set}
 use denote.Ref.{now}
 use borrow.Author.Needs.{needs}
-use Rattle.definitions.specs.Codes.{Code}
 use Rattle.definitions.specs.MessageNumbers.{placeValue, numberMessage}
 use Rattle.code_theorems.proofs.MessageNumbers.{number-long, number-at}
-use Rattle.opening.specs.Opening.{codeWith}
-use Rattle.opening.specs.declared.Parameters.{Parameters}
 use Rattle.code_operations.proofs.Storing.{storedTo, store-next, store-end}
-use Rattle.message_numbers.proofs.Symbols.{next-rest}
+use Rattle.message_numbers.proofs.Symbols.{code, next-rest}
 use Rattle.message_numbers.proofs.store_symbols.Statement.{statement}
 use Rattle.message_numbers.proofs.store_symbols.Tie as tie
-
--- the radices do not depend on the matrix
-abbrev code : Parameters → Code
-code p = codeWith p []
 
 abbrev Inv-loop : tie.InvT-loop
 Inv-loop p x out₀ rest₀ i₀ out rest i =
