@@ -39,6 +39,7 @@ refusalNumber refusal.WrongContents = 15
 refusalNumber refusal.WrongBody = 16
 refusalNumber refusal.TooManyMessages = 17
 refusalNumber refusal.NumberTooLarge = 18
+refusalNumber refusal.LeftoverBitSet = 19
 
 -- "stack reading's 11 adds the plane"
 abbrev pub refusalPlane : Refusal → Option ℕ
@@ -61,6 +62,7 @@ refusalPlane refusal.WrongContents = none
 refusalPlane refusal.WrongBody = none
 refusalPlane refusal.TooManyMessages = none
 refusalPlane refusal.NumberTooLarge = none
+refusalPlane refusal.LeftoverBitSet = none
 
 module _ {A : Type 0} where
   abbrev pub withPlane : ℕ → Option ℕ → Answer A

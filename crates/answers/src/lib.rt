@@ -44,6 +44,8 @@ pub enum Refusal {
     TooManyMessages,
     // 18: a number not below the product of the radices
     NumberTooLarge,
+    // 19: a leftover bit of the last byte is set
+    LeftoverBitSet,
 }
 
 // Its number.
@@ -70,6 +72,7 @@ pub fn refusal_number(x: Refusal) -> usize
         Refusal::WrongBody => 16,
         Refusal::TooManyMessages => 17,
         Refusal::NumberTooLarge => 18,
+        Refusal::LeftoverBitSet => 19,
     }
 }
 

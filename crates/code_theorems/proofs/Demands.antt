@@ -48,7 +48,7 @@ module _ (b : List ℕ) (p : Code) (opens : openCode b ≡ given p) where
       rw opens (tested-by (accepted p) (Accepted p) (acceptance p .0) (acceptance p .1))
 
   -- demand 2, of encoding
-  encodes : (s out : List ℕ) → Message p s → length out ≡ p .n → encodeCode b s out ≡ record { answer = given tt; out = encode p s }
+  pub encodes : (s out : List ℕ) → Message p s → length out ≡ p .n → encodeCode b s out ≡ record { answer = given tt; out = encode p s }
   unfolding encodeCode
   encodes s out m lo =
       rw (

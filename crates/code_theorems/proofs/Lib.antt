@@ -30,3 +30,5 @@ pub mod Divides
 pub mod Shams
 -- operations between messages and numbers that answer wrongly do not meet their clauses
 pub mod NumberShams
+-- operations between messages and bytes that answer wrongly do not meet their clauses
+pub mod PackingShams

@@ -31,28 +31,39 @@ after-given (given x) f y e = (x, refl, e)
 after-given (refused k) f y e = let z : _≡_ {A = ℕ} 0 1 = cc in absurd (omega arith)
 after-given (refusedAt k j) f y e = let z : _≡_ {A = ℕ} 0 1 = cc in absurd (omega arith)
 
--- where decoding gives a count, the description opened, the buffers fitted and the levels were below q: codes and stacks alike
-module _ {O : Type 0} (opening : Answer O) (n q : O → ℕ) (decoding : O → Answer (ℕ × List ℕ)) (y out : List ℕ) where
-  abbrev rest : O → Answer (ℕ × List ℕ)
-  rest o =
-      refuse 8 when not (eqb (length y) (n o) && eqb (length out) (n o)) else
-      refuse 10 when not (allBelow (q o) y) else
-      decoding o
+-- where an operation gives something, the description opened, the input x and the output buffer fitted, and what was left gave it
+module _ {A O : Type 0} (opening : Answer O) (read written : O → ℕ) (left : O → Answer (A × List ℕ)) (x out : List ℕ) where
+  abbrev operation : Result A
+  operation =
+      result
+      (after opening λ o.
+      refuse 8 when not (eqb (length x) (read o) && eqb (length out) (written o)) else
+      left o)
+      out
 
-  abbrev reading : Result ℕ
-  reading = result (after opening rest) out
-
-  pub given-read :
-      (k : ℕ) → reading .answer ≡ given k
-      → (o : O) × (opening ≡ given o) × (length y ≡ n o) × (length out ≡ n o) × EachCell (λ v. v < q o) y
-  given-read k e =
-      let g = result-given (after opening rest) out k e in
-      let (o, opens, e₁) = after-given opening rest _ g in
-      let (h₁, e₂) = passed 8 (eqb (length y) (n o) && eqb (length out) (n o)) _ _ e₁ in
-      let (h₂, _) = passed 10 (allBelow (q o) y) _ _ e₂ in (
+  pub given-fits :
+      (k : A) → operation .answer ≡ given k
+      → (o : O) × (opening ≡ given o) × (length x ≡ read o) × (length out ≡ written o) × (left o ≡ given (k, operation .out))
+  given-fits k e =
+      let g = result-given _ out k e in
+      let (o, opens, e₁) = after-given opening _ _ g in
+      let (h, e₂) = passed 8 (eqb (length x) (read o) && eqb (length out) (written o)) _ _ e₁ in (
         o,
         opens,
-        eqb→eq (length y) (n o) (and-left (eqb (length y) (n o)) (eqb (length out) (n o)) h₁),
-        eqb→eq (length out) (n o) (and-right (eqb (length y) (n o)) (eqb (length out) (n o)) h₁),
-        below-each (q o) y h₂,
+        eqb→eq (length x) (read o) (and-left (eqb (length x) (read o)) (eqb (length out) (written o)) h),
+        eqb→eq (length out) (written o) (and-right (eqb (length x) (read o)) (eqb (length out) (written o)) h),
+        e₂,
       )
+
+-- where decoding gives a count, the levels were below q: codes and stacks alike
+module _ {O : Type 0} (opening : Answer O) (n q : O → ℕ) (decoding : O → Answer (ℕ × List ℕ)) (y out : List ℕ) where
+  abbrev rest : O → Answer (ℕ × List ℕ)
+  rest o = refuse 10 when not (allBelow (q o) y) else decoding o
+
+  pub given-read :
+      (k : ℕ) → operation opening n n rest y out .answer ≡ given k
+      → (o : O) × (opening ≡ given o) × (length y ≡ n o) × (length out ≡ n o) × EachCell (λ v. v < q o) y
+  given-read k e =
+      let (o, opens, ly, lo, e₁) = given-fits opening n n rest y out k e in
+      let (h, _) = passed 10 (allBelow (q o) y) _ _ e₁ in
+      (o, opens, ly, lo, below-each (q o) y h)

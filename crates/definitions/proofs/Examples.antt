@@ -15,6 +15,8 @@ use Rattle.definitions.specs.Decoding.{sameSyndrome, fits, decode}
 use Rattle.definitions.specs.Messages.{symbolsFit, checkLevel, encode, message}
 use Rattle.definitions.specs.CodeOperations.{inRange, openCode, testCode, encodeCode, decodeCode, recoverCode}
 use Rattle.definitions.specs.Tried.{tried, triedCode}
+use Rattle.definitions.specs.Packing.{packable, bitCount, byteCount, pack, unpack, leftoverSet}
+use Rattle.definitions.specs.PackingOperations.{openPackable, packCode, unpackCode}
 use Rattle.definitions.specs.MessageNumbers.{radixProduct, messageNumber, numberMessage}
 use Rattle.definitions.specs.MessageNumberOperations.{openNumbered, messageOfNumber, numberOfMessage}
 use Rattle.definitions.specs.StackCodewords.{isStackCodeword, acceptedStack}
@@ -157,6 +159,7 @@ unfolding
     syndromeEntry syndrome isCodeword patternsOf patternCount accepted sameSyndrome fits decode symbolsFit checkLevel encode message
     inRange openCode testCode encodeCode decodeCode recoverCode tried triedCode decodeStack
     radixProduct messageNumber numberMessage openNumbered messageOfNumber numberOfMessage
+    log2 isPowerOfTwo packable bitCount byteCount pack unpack leftoverSet openPackable packCode unpackCode
     contentsRight checkImage decodeRow readRow linesOf
     acceptedStack isStackCodeword stackMessage encodeWord firstWithSyndrome
     openPlane openPlanes openStack testStack encodeStack recoverStack decodeCircular decodePlanes decodeWord

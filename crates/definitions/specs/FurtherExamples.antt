@@ -8,6 +8,7 @@ use Rattle.definitions.specs.Answers.{given, refused, refusedAt}
 use Rattle.definitions.specs.Codes.{codeOf}
 use Rattle.definitions.specs.Decoding.{fits}
 use Rattle.definitions.specs.CodeOperations.{recoverCode}
+use Rattle.definitions.specs.PackingOperations.{packCode, unpackCode}
 use Rattle.definitions.specs.MessageNumberOperations.{messageOfNumber}
 use Rattle.definitions.specs.StackOperations.{encodeStack, recoverStack}
 use Rattle.definitions.specs.Examples.{Example, tests, testsStack, encodes, decodes, tries, numbers, circular, checks, readsRow, lists, writes, passes}
@@ -87,6 +88,18 @@ further =
     ∷ writes (messageOfNumber (allData 64 2) 0 (lent 63)) (declined 8 63)
     ∷ writes (messageOfNumber (allData 40 3) (2 ^ 64 - 1) (lent 40)) (declined 17 40)
     ∷ numbers (allData 40 3) (replicate 40 3) (refused 17)
+    -- wish 3, leftover bits: R's 11 bits are two bytes, of which the last has five leftover bits. No example of document 01 changes
+    ∷ writes (packCode R (3 ∷ 2 ∷ 1 ∷ 0 ∷ 0 ∷ []) (lent 2)) (back tt (51 ∷ 0 ∷ []))
+    ∷ writes (unpackCode R (51 ∷ 0 ∷ []) (lent 5)) (back tt (3 ∷ 2 ∷ 1 ∷ 0 ∷ 0 ∷ []))
+    -- the lowest and the highest of them set; the same bits of the first byte belong to symbols
+    ∷ writes (unpackCode R (51 ∷ 8 ∷ []) (lent 5)) (declined 19 5)
+    ∷ writes (unpackCode R (51 ∷ 128 ∷ []) (lent 5)) (declined 19 5)
+    ∷ writes (unpackCode R (255 ∷ 7 ∷ []) (lent 5)) (back tt (7 ∷ 3 ∷ 3 ∷ 3 ∷ 3 ∷ []))
+    -- eight bits are one whole byte
+    ∷ writes (unpackCode (allData 8 2) (255 ∷ []) (lent 8)) (back tt (replicate 8 1))
+    -- 14 before 8, 8 before 19
+    ∷ writes (unpackCode (allData 5 3) (255 ∷ []) (lent 4)) (declined 14 4)
+    ∷ writes (unpackCode R (51 ∷ 128 ∷ []) (lent 4)) (declined 8 4)
     -- circular reading raises 0 to the top level where d is refused; without acceptance it may differ from a word given back
     ∷ circular R (0 ∷ 1 ∷ 1 ∷ 1 ∷ 1 ∷ []) (given (1, 7 ∷ 1 ∷ 1 ∷ 1 ∷ 1 ∷ []))
     ∷ decodes G (0 ∷ 1 ∷ []) (back 1 (zeros 2))

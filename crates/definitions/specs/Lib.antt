@@ -20,9 +20,9 @@ pub mod CodeOperations
 pub mod Tried
 -- powers of two, and the bits of a number
 pub mod PowersOfTwo
--- packing: the message of a code as bytes (document 01: bytes)
+-- packing: the message of a code as bytes (document 01: bytes; document 02, wish 3: leftover bits must be 0)
 pub mod Packing
--- the operations of packing, for every byte string and every buffer: document 01's "bytes, either way"
+-- the operations of packing, for every byte string and every buffer: document 01's "bytes, either way", with document 02's wish 3
 pub mod PackingOperations
 -- a message as one whole number, in mixed radix: document 02's wish 2
 pub mod MessageNumbers

@@ -1,10 +1,13 @@
--- Packing: the message of a code as bytes (document 01: bytes).
-use mathlib.Core.Bool.{Bool, _&&_, cond}
+-- Packing: the message of a code as bytes (document 01: bytes; document 02, wish 3: leftover bits must be 0).
+use mathlib.Core.Path.{_≡_}
+use mathlib.Core.Bool.{Bool, _&&_, not, cond}
 use mathlib.Core.List.{List, [], _++_, map}
-use Prim.Native.Nat.{ℕ, zero, suc, _+_, _*_, _/_, _%_}
+use Prim.Native.Nat.{ℕ, zero, suc, _+_, _*_, _-_, _/_, _%_, _<_, _≤_}
 use lib.Dec.{leb, ltb}
-use Rattle.definitions.specs.Words.{at, sumTo, upFrom}
+use lib.ListN.{length}
+use Rattle.definitions.specs.Words.{at, sumTo, upFrom, allZero, EachCell}
 use Rattle.definitions.specs.Codes.{Code, dataCells}
+use Rattle.definitions.specs.Messages.{Message}
 use Rattle.definitions.specs.PowersOfTwo.{log2, isPowerOfTwo, bit, fromBits}
 
 -- the radix of the symbol of cell i + 1: the symbol is below q, and that of a check cell is below floor(q / M)
@@ -48,14 +51,34 @@ symbolAt bytes k w = fromBits w (λ i. bitOf bytes (k + i))
 abbrev pub isLeftover : Code → ℕ → Bool
 isLeftover p k = leb (bitCount p) k
 
--- the bytes with the leftover bits 0
-unfoldable pub cleared : Code → List ℕ → List ℕ
-cleared p bytes = bytesOf (byteCount p) (λ k. cond (isLeftover p k) 0 (bitOf bytes k))
-
 -- the bytes made from a message: "leftover bits are .. 0 when bytes are made"
 unfoldable pub pack : Code → List ℕ → List ℕ
 pack p s = bytesOf (byteCount p) (λ k. cond (isLeftover p k) 0 (at (bitsOf (width p) s (p .n)) k))
 
--- the message taken from bytes: "leftover bits are ignored"
+-- the message taken from bytes
 unfoldable pub unpack : Code → List ℕ → List ℕ
 unpack p bytes = map (λ i. symbolAt bytes (sumTo i (width p)) (width p i)) (upFrom 0 (p .n))
+
+-- the leftover bits of the last byte: from bit B on to the end of the bytes, none where B is a multiple of 8
+abbrev pub leftoverBits : Code → List ℕ → List ℕ
+leftoverBits p bytes = map (bitOf bytes) (upFrom (bitCount p) (8 * byteCount p - bitCount p))
+
+-- wish 3, in place of document 01's "leftover bits are ignored when a message is taken from bytes": "a leftover bit of the last byte is set"
+unfoldable pub leftoverSet : Code → List ℕ → Bool
+leftoverSet p bytes = not (allZero (leftoverBits p bytes))
+
+abbrev pub Bytes : List ℕ → Type 0
+Bytes x = EachCell (λ v. v < 256) x
+
+-- ceil(B / 8) bytes whose leftover bits are 0
+pub record MessageBytes (p : Code) (bytes : List ℕ) : Type 0 where
+  pub long : length bytes ≡ byteCount p
+  pub small : Bytes bytes
+  pub clear : (k : ℕ) → bitCount p ≤ k → k < 8 * byteCount p → bitOf bytes k ≡ 0
+
+-- messages and such bytes correspond one to one
+pub record BytesOneToOne (p : Code) : Type 0 where
+  pub packed : (s : List ℕ) → Message p s → MessageBytes p (pack p s)
+  pub back : (s : List ℕ) → Message p s → unpack p (pack p s) ≡ s
+  pub isMessage : (x : List ℕ) → MessageBytes p x → Message p (unpack p x)
+  pub again : (x : List ℕ) → MessageBytes p x → pack p (unpack p x) ≡ x

@@ -163,7 +163,7 @@ pub extern "C" fn levels_pack(body: &[u8], message: &[u8], bytes: &mut [u8]) -> 
     ensures number { λ r. ⌜ r ≡ numberOf (packCode (now (body .entry)) (now (message .entry)) (now (bytes .entry)) .answer) ⌝ }
     ensures buffer { λ r. ⌜ now (bytes .exit) ≡ packCode (now (body .entry)) (now (message .entry)) (now (bytes .entry)) .out ⌝ }
     ensures packed { λ r. ⌜ WherePacked (now (body .entry)) (now (message .entry)) (now (bytes .entry))
-        (λ p. Packed p (now (message .entry)) (answerBy r) (now (bytes .exit))) ⌝ }
+        (λ p. Packed (now (body .entry)) p (now (message .entry)) (answerBy r) (now (bytes .exit))) ⌝ }
 {
     numbered_answers::of_write(packing::pack(body, message, bytes))
 }
@@ -174,7 +174,7 @@ pub extern "C" fn levels_unpack(body: &[u8], bytes: &[u8], message: &mut [u8]) -
     ensures number { λ r. ⌜ r ≡ numberOf (unpackCode (now (body .entry)) (now (bytes .entry)) (now (message .entry)) .answer) ⌝ }
     ensures buffer { λ r. ⌜ now (message .exit) ≡ unpackCode (now (body .entry)) (now (bytes .entry)) (now (message .entry)) .out ⌝ }
     ensures unpacked { λ r. ⌜ WhereUnpacked (now (body .entry)) (now (bytes .entry)) (now (message .entry))
-        (λ p. Unpacked p (now (bytes .entry)) (answerBy r) (now (message .exit))) ⌝ }
+        (λ p. Unpacked (now (body .entry)) p (now (bytes .entry)) (answerBy r) (now (message .exit))) ⌝ }
 {
     numbered_answers::of_write(packing::unpack(body, bytes, message))
 }

@@ -31,6 +31,7 @@ positive refusal.WrongContents = omega arith
 positive refusal.WrongBody = omega arith
 positive refusal.TooManyMessages = omega arith
 positive refusal.NumberTooLarge = omega arith
+positive refusal.LeftoverBitSet = omega arith
 
 module _ (A : Type 0) where
   number-with : (k : ℕ) (j : Option ℕ) → numberOf (withPlane {A = A} k j) ≡ k

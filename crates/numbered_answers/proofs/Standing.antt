@@ -25,49 +25,67 @@ use Rattle.numbered_answers.specs.declared.Reading.{Reading}
 use Rattle.numbered_answers.specs.declared.Value.{Value}
 use Rattle.numbered_answers.proofs.Refused.{positive, refused-number}
 
--- two answers of reading that give the same and are refused by the same number
-pub record Alike (a b : Answer ℕ) : Type 0 where
-  pub to : (k : ℕ) → a ≡ given k → b ≡ given k
-  pub from : (k : ℕ) → b ≡ given k → a ≡ given k
+-- two answers that give the same and are refused by the same number
+pub record Alike {A : Type 0} (a b : Answer A) : Type 0 where
+  pub to : (k : A) → a ≡ given k → b ≡ given k
+  pub from : (k : A) → b ≡ given k → a ≡ given k
   pub same : number a ≡ number b
 
-alike-refused : (k : ℕ) (j : Option ℕ) → 1 ≤ k → Alike (withPlane k j) (countBy (numberOf (withPlane {A = ℕ} k j)) (countOf (withPlane k j)))
-alike-refused zero j h = absurd (omega arith)
-alike-refused (suc k) none h = record { to = λ i e. e; from = λ i e. e; same = refl }
-alike-refused (suc k) (some j) h = record {
+alike-refl : {A : Type 0} (a : Answer A) → Alike a a
+alike-refl a = record { to = λ i e. e; from = λ i e. e; same = refl }
+
+alike-refused : {A : Type 0} (k : ℕ) (j : Option ℕ) → Alike {A = A} (withPlane k j) (refused k)
+alike-refused k none = alike-refl (refused k)
+alike-refused k (some j) = record {
   to = λ i e. (let z : _≡_ {A = ℕ} 0 1 = cc in absurd (omega arith));
   from = λ i e. (let z : _≡_ {A = ℕ} 0 1 = cc in absurd (omega arith));
   same = refl;
 }
 
+-- a refusal's number is not 0, so it stands for a refusal
+alike-count : (k : ℕ) (j : Option ℕ) → 1 ≤ k → Alike (withPlane k j) (countBy (numberOf (withPlane {A = ℕ} k j)) (countOf (withPlane k j)))
+alike-count zero j h = absurd (omega arith)
+alike-count (suc k) none h = alike-refused (suc k) none
+alike-count (suc k) (some j) h = alike-refused (suc k) (some j)
+
+alike-answer : (k : ℕ) (j : Option ℕ) → 1 ≤ k → Alike (withPlane k j) (answerBy (numberOf (withPlane {A = Unit {0}} k j)))
+alike-answer zero j h = absurd (omega arith)
+alike-answer (suc k) none h = alike-refused (suc k) none
+alike-answer (suc k) (some j) h = alike-refused (suc k) (some j)
+
 pub read-alike : (a : ReadAnswer) → Alike (readAs a) (countBy (numberOf (readAs a)) (countOf (readAs a)))
-read-alike (read.Count count tried) = record { to = λ i e. e; from = λ i e. e; same = refl }
-read-alike (read.Refused x) = alike-refused (refusalNumber x) (refusalPlane x) (positive x)
+read-alike (read.Count count tried) = alike-refl (given count)
+read-alike (read.Refused x) = alike-count (refusalNumber x) (refusalPlane x) (positive x)
 
 pub outcome-alike : (a : Outcome) → Alike (outcomeAs a) (countBy (numberOf (outcomeAs a)) (countOf (outcomeAs a)))
-outcome-alike (outcome.Count k) = record { to = λ i e. e; from = λ i e. e; same = refl }
-outcome-alike (outcome.Refused x) = alike-refused (refusalNumber x) (refusalPlane x) (positive x)
+outcome-alike (outcome.Count k) = alike-refl (given k)
+outcome-alike (outcome.Refused x) = alike-count (refusalNumber x) (refusalPlane x) (positive x)
 
-module _ (K : Coding) (y out : List ℕ) {a b : Answer ℕ} (h : Alike a b) where
-  given-alike : {P : Type 0} → ((k : ℕ) × (a ≡ given k)) ↔ P → ((k : ℕ) × (b ≡ given k)) ↔ P
+write-alike : (a : WriteAnswer) → Alike (writtenAs a) (answerBy (numberOf (writtenAs a)))
+write-alike write.Written = alike-refl (given tt)
+write-alike (write.Refused x) = alike-answer (refusalNumber x) (refusalPlane x) (positive x)
+
+module _ {A : Type 0} {a b : Answer A} (h : Alike a b) {P : Type 0} where
+  given-alike : ((k : A) × (a ≡ given k)) ↔ P → ((k : A) × (b ≡ given k)) ↔ P
   given-alike e = ((λ g. e .0 (g .0, h .from (g .0) (g .1))), (λ p. let g = e .1 p in (g .0, h .to (g .0) (g .1))))
 
-  number-alike : {P : Type 0} {n : ℕ} → P ↔ (number a ≡ some n) → P ↔ (number b ≡ some n)
+  number-alike : {n : ℕ} → P ↔ (number a ≡ some n) → P ↔ (number b ≡ some n)
   number-alike e = ((λ p. sym (h .same) ∙ e .0 p), (λ q. e .1 (h .same ∙ q)))
 
+module _ (K : Coding) (y out : List ℕ) {a b : Answer ℕ} (h : Alike a b) where
   pub decides-alike : DistanceDecides K y a out → DistanceDecides K y b out
   decides-alike d =
       record {
-        exactly = given-alike (d .exactly);
+        exactly = given-alike h (d .exactly);
         back = d .back;
         count = λ c w. h .to _ (d .count c w);
         one = d .one;
-        other = number-alike (d .other);
+        other = number-alike h (d .other);
       }
 
   pub some-alike : SomeCodeword K y a out → SomeCodeword K y b out
   some-alike d =
-      record { exactly = given-alike (d .exactly); back = λ k e. d .back k (h .from k e); other = number-alike (d .other) }
+      record { exactly = given-alike h (d .exactly); back = λ k e. d .back k (h .from k e); other = number-alike h (d .other) }
 
   pub within-alike : GivenWithinReach K y a out → GivenWithinReach K y b out
   within-alike d k e = d k (h .from k e)
@@ -116,17 +134,25 @@ module _ (K : Coding) (x out : List ℕ) (a : Answer (Unit {0})) (r : ℕ) (e : 
   recover-by h = rw e (recovered-stands K x out a h)
 
 -- and of packing
-module _ (p : Code) (x out : List ℕ) (a : Answer (Unit {0})) (r : ℕ) (e : r ≡ numberOf a) where
-  pub pack-by : Packed p x a out → Packed p x (answerBy r) out
-  pack-by h = record {
+module _ (b : List ℕ) (p : Code) (x out : List ℕ) where
+  pub pack-by : (a : Answer (Unit {0})) (r : ℕ) → r ≡ numberOf a → Packed b p x a out → Packed b p x (answerBy r) out
+  pack-by a r e h = record {
     written = (let w = h .written in rw (e, w));
-    long = h .long;
+    isBytes = h .isBytes;
     back = h .back;
-    clean = h .clean;
+    only = h .only;
   }
 
-  pub unpack-by : Unpacked p x a out → Unpacked p x (answerBy r) out
-  unpack-by h = record { written = (let w = h .written in rw (e, w)); isMessage = h .isMessage; back = h .back }
+  unpacked-alike : {a c : Answer (Unit {0})} → Alike a c → Unpacked b p x a out → Unpacked b p x c out
+  unpacked-alike same h = record {
+    exactly = ((λ e. h .exactly .0 (same .from tt e)), (λ w. same .to tt (h .exactly .1 w)));
+    leftover = number-alike same (h .leftover);
+    whole = λ e. same .to tt (h .whole e);
+    taken = λ e. h .taken (same .from tt e);
+  }
+
+  pub unpack-by : (a : WriteAnswer) (r : ℕ) → r ≡ numberOf (writtenAs a) → Unpacked b p x (writtenAs a) out → Unpacked b p x (answerBy r) out
+  unpack-by a r e h = rw e (unpacked-alike (write-alike a) h)
 
 -- and of messages and their numbers
 pub message-by : (b : List ℕ) (p : Code) (x : ℕ) (out : List ℕ) (a : Answer (Unit {0})) (r : ℕ) → r ≡ numberOf a
@@ -160,14 +186,7 @@ tried-given (read.Refused x) r h e z = absurd (omega (arith, h .number-is, refus
 
 -- what is not refused was written
 pub given-by : (a : WriteAnswer) (r : ℕ) → r ≡ numberOf (writtenAs a) → answerBy r ≡ given tt → writtenAs a ≡ given tt
-given-by write.Written r e h = refl
-given-by (write.Refused x) r e h =
-    step (refusalNumber x) (refusalPlane x) (positive x) (subst (λ (u : ℕ). answerBy u ≡ given tt) e h)
-  where
-    step : (k : ℕ) (j : Option ℕ) → 1 ≤ k → answerBy (numberOf (withPlane {A = Unit {0}} k j)) ≡ given tt → withPlane {A = Unit {0}} k j ≡ given tt
-    step zero j p h = absurd (omega arith)
-    step (suc k) none p h = h
-    step (suc k) (some j) p h = let z : _≡_ {A = ℕ} 0 1 = cc in absurd (omega arith)
+given-by a r e h = write-alike a .from tt (subst (λ (u : ℕ). answerBy u ≡ given tt) e h)
 
 -- and of the definition's result, which it equals
 pub write-result : (a : Answer (Unit {0})) (out : List ℕ) (d : Result (Unit {0})) (r : ℕ) → leaves a out ≡ d → r ≡ numberOf a

@@ -8,6 +8,8 @@ use native.Mathlib.Omega.{arith}
 use lib.Dec.{T, ltb}
 use lib.ListN.{length, take}
 use lib.Seq.{ext-getD, getD-take, length-take-le}
+use mir.Syntax.{w8}
+use mir.Val.{Fits}
 use borrow.Author.Tests.{le-leb, lt-leb}
 use Rattle.definitions.specs.Words.{at, sumTo}
 use Rattle.definitions.specs.Answers.{Answer, given, refused, refuse_when_else_}
@@ -15,9 +17,9 @@ use Rattle.definitions.specs.Codes.{Code}
 use Rattle.definitions.specs.Messages.{Message, symbolsFit}
 use Rattle.definitions.specs.CodeOperations.{openCode}
 use Rattle.definitions.specs.PowersOfTwo.{log2}
-use Rattle.definitions.specs.Packing.{packable, width, bitCount, byteCount, bytesOf, bitsOf, symbolAt, isLeftover, pack, unpack}
+use Rattle.definitions.specs.Packing.{packable, width, bitCount, byteCount, bytesOf, bitsOf, symbolAt, isLeftover, pack, unpack, leftoverSet}
 use Rattle.definitions.specs.PackingOperations.{openPackable, packCode, unpackCode, Packed, Unpacked}
-use Rattle.word_laws.proofs.Cells.{at-past}
+use Rattle.word_laws.proofs.Cells.{at-past, at-each}
 use Rattle.word_laws.proofs.BitLists.{bytes-same, bits-long}
 use Rattle.code_theorems.proofs.Packing.{below-radix, radix-power, unpack-long, unpack-at, pack-demand, unpack-demand}
 use Rattle.answers.specs.Answering.{refusedAs, leaves}
@@ -69,11 +71,11 @@ abbrev pub packRest : List ℕ → Code → Answer (Unit {0} × List ℕ)
 packRest s p = refuse 9 when not (symbolsFit p s) else given (tt, pack p s)
 
 abbrev pub unpackRest : List ℕ → Code → Answer (Unit {0} × List ℕ)
-unpackRest bytes p = given (tt, unpack p bytes)
+unpackRest bytes p = refuse 19 when leftoverSet p bytes else given (tt, unpack p bytes)
 
 -- the layout has the code's widths
 module _ (p : Parameters) (A : List ℕ) where
-  widths : width (codeWith p A) ≡ widthIn (layoutOf p)
+  pub widths : width (codeWith p A) ≡ widthIn (layoutOf p)
   widths = fun-ext (λ i. step (ltb i (p .n - p .r)))
     where
       step : (t : Bool) → log2 (cond t (p .q) (p .q / p .m)) ≡ cond t (log2 (p .q)) (log2 (p .q / p .m))
@@ -99,7 +101,7 @@ module _ (p : Parameters) (A : List ℕ) where
   packs s =
       let code = codeWith p A in
       ap (λ (w : ℕ → ℕ). bytesOf (byteCount code) (at (bitsOf w s (p .n)))) (sym widths)
-      ∙ bytes-same (byteCount code) (at (bitsOf (width code) s (p .n))) (λ k. cond (isLeftover code k) 0 (at (bitsOf (width code) s (p .n)) k)) (λ k.
+      ∙ bytes-same (byteCount code) (at (bitsOf (width code) s (p .n))) (λ k. cond (isLeftover code k) 0 (at (bitsOf (width code) s (p .n)) k)) (λ k _.
       step k (decLt k (bitCount code)))
     where
       step : (k : ℕ) → Dec (k < bitCount (codeWith p A))
@@ -118,8 +120,12 @@ module _ (p : Parameters) (A : List ℕ) where
       ∙ ap (λ (w : ℕ → ℕ). symbolAt bytes (sumTo i w) (w i)) (sym widths) ∙ sym (unpack-at (codeWith p A) bytes i g))
 
 module _ (b x lent : List ℕ) {a : Answer (Unit {0})} {out : List ℕ} where
-  pub pack-clauses : leaves a out ≡ packCode b x lent → (leaves a out ≡ packCode b x lent) × WherePacked b x lent (λ p. Packed p x a out)
-  pack-clauses e = (e, λ p opens m lo. carried (Packed p x) (packCode b x lent) e (pack-demand b p opens x lent m lo))
+  pub pack-clauses : leaves a out ≡ packCode b x lent → (leaves a out ≡ packCode b x lent) × WherePacked b x lent (λ p. Packed b p x a out)
+  pack-clauses e = (e, λ p opens m lo. carried (Packed b p x) (packCode b x lent) e (pack-demand b p opens x lent m lo))
 
-  pub unpack-clauses : leaves a out ≡ unpackCode b x lent → (leaves a out ≡ unpackCode b x lent) × WhereUnpacked b x lent (λ p. Unpacked p x a out)
-  unpack-clauses e = (e, λ p opens lb lo. carried (Unpacked p x) (unpackCode b x lent) e (unpack-demand b p opens x lent lb lo))
+  -- x is lent: each of its entries is a byte
+  pub unpack-clauses : ((i : ℕ) → Fits w8 (at x i)) → leaves a out ≡ unpackCode b x lent
+      → (leaves a out ≡ unpackCode b x lent) × WhereUnpacked b x lent (λ p. Unpacked b p x a out)
+  unpack-clauses small e =
+      let bytes = at-each (λ v. v < 256) x (λ i _. small i .fits) in
+      (e, λ p opens lb lo. carried (Unpacked b p x) (unpackCode b x lent) e (unpack-demand b p opens x lent bytes lb lo))

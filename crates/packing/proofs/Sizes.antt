@@ -1,14 +1,19 @@
--- How many bits the symbols have.
-use mathlib.Core.Path.{_≡_, refl, sym, ap, _∙_}
-use mathlib.Core.Bool.{Bool, true, false, cond}
-use Prim.Native.Nat.{ℕ, zero, suc, _+_, _*_, _-_, _≤_, _<_}
+-- How many bits the symbols have, and whether one after them is set.
+use mathlib.Core.Path.{_≡_, refl, sym, ap, ap₂, _∙_}
+use mathlib.Core.Bool.{Bool, true, false, not, cond}
+use mathlib.Core.List.{List}
+use Prim.Native.Nat.{ℕ, zero, suc, _+_, _*_, _-_, _/_, _≤_, _<_}
 use native.Mathlib.Nat.{add-zero, add-suc, zero-mul, suc-mul}
 use native.Mathlib.Omega.{arith}
-use lib.Dec.{ltb}
-use borrow.Author.Tests.{lt-ltb, le-ltb}
+use lib.Dec.{eqb, ltb}
+use borrow.Author.Tests.{lt-ltb, le-ltb, ne-eqb}
 use Rattle.definitions.specs.Words.{sumTo}
+use Rattle.definitions.specs.Codes.{Code}
+use Rattle.definitions.specs.Packing.{width, bitCount, byteCount, symbolAt, leftoverSet}
+use Rattle.word_laws.proofs.BitLists.{symbol-zero}
 use Rattle.bit_reader.specs.Taking.{widthIn, Narrow}
 use Rattle.bit_reader.specs.declared.Layout.{Layout}
+use Rattle.packing.specs.Packing.{LaidOut}
 
 module _ (l : Layout) where
   leading-bits : (m : ℕ) → m ≤ l .leading → sumTo m (widthIn l) ≡ m * l .wide
@@ -33,3 +38,22 @@ module _ (l : Layout) where
       step : (b : Bool) → cond b (l .wide) (l .narrow) ≤ 8
       step true = h .wide
       step false = h .narrow
+
+  -- the number that the leftover bits make
+  pub leftover-number :
+      (bytes : List ℕ) {end count v : ℕ}
+      → end ≡ sumTo (l .n) (widthIn l)
+      → count ≡ (sumTo (l .n) (widthIn l) + 7) / 8
+      → v ≡ symbolAt bytes end (8 * count - end)
+      → (p : Code)
+      → LaidOut p l
+      → ltb 0 v ≡ leftoverSet p bytes
+  unfolding leftoverSet byteCount bitCount
+  leftover-number bytes {end} {count} {v} e c s p (n, w) =
+      let all : sumTo (p .n) (width p) ≡ end = ap₂ sumTo n w ∙ sym e in
+      let same : count ≡ (end + 7) / 8 = rw e c in
+      positive v ∙ ap (λ (x : ℕ). not (eqb x 0)) s ∙ sym (rw (all, ← same) (ap not (symbol-zero bytes end (8 * count - end))))
+    where
+      positive : (x : ℕ) → ltb 0 x ≡ not (eqb x 0)
+      positive zero = refl
+      positive (suc x) = lt-ltb 0 (suc x) (omega arith) ∙ sym (ap not (ne-eqb (suc x) 0 (λ e. omega arith)))

@@ -9,7 +9,7 @@ use Rattle.definitions.specs.Answers.{given}
 use Rattle.definitions.specs.Codes.{Code}
 use Rattle.definitions.specs.Messages.{Message}
 use Rattle.definitions.specs.PowersOfTwo.{log2, fromBits}
-use Rattle.definitions.specs.Packing.{byteCount, bitsOf}
+use Rattle.definitions.specs.Packing.{width, byteCount, bitsOf}
 use Rattle.definitions.specs.PackingOperations.{openPackable}
 use Rattle.opening.specs.declared.Parameters.{Parameters}
 use Rattle.bit_reader.specs.declared.Layout.{Layout}
@@ -25,6 +25,10 @@ pub record Sized (p : Parameters) : Type 0 where
 
 abbrev pub layoutOf : Parameters → Layout
 layoutOf p = record { n = p .n; leading = p .n - p .r; wide = log2 (p .q); narrow = log2 (p .q / p .m) }
+
+-- the layout is that of the code's symbols
+abbrev pub LaidOut : Code → Layout → Type 0
+LaidOut p l = (p .n ≡ l .n) × (width p ≡ widthIn l)
 
 -- each symbol has room in its bits
 pub record Fitting (l : Layout) (s : List ℕ) : Type 0 where

@@ -1,5 +1,5 @@
-// Packing: a code's message to bytes and from bytes (document 01: bytes). Each operation takes a code's description, its input and an
-// output buffer, and writes to the buffer only after all refusals.
+// Packing: a code's message to bytes and from bytes (document 01: bytes; document 02, wish 3: leftover bits must be 0). Each operation takes
+// a code's description, its input and an output buffer, and writes to the buffer only after all refusals.
 use answers::Refusal;
 use answers::SizeAnswer;
 use answers::WriteAnswer;
@@ -12,13 +12,14 @@ ghost use mathlib.Core.List.{List};
 ghost use Prim.Native.Nat.{ℕ, _+_, _*_, _/_, _<_, _≤_};
 ghost use lib.ListN.{length, take};
 ghost use Rattle.definitions.specs.Words.{at, sumTo};
-ghost use Rattle.definitions.specs.Packing.{packable, bytesOf, bitsOf};
+ghost use Rattle.definitions.specs.Codes.{Code};
+ghost use Rattle.definitions.specs.Packing.{packable, bytesOf, bitsOf, leftoverSet};
 ghost use Rattle.definitions.specs.Sizes.{packedBytes};
 ghost use Rattle.definitions.specs.PackingOperations.{openPackable, packCode, unpackCode, Packed, Unpacked};
 ghost use Rattle.answers.specs.Answering.{writtenAs, sizedAs, leaves};
 ghost use Rattle.opening.specs.Opening.{codeWith, openedAs, Placed};
 ghost use Rattle.bit_reader.specs.Taking.{widthIn, Narrow};
-ghost use Rattle.packing.specs.Packing.{layoutOf, Sized, Fitting, Pulling, Full, WherePacked, WhereUnpacked};
+ghost use Rattle.packing.specs.Packing.{layoutOf, LaidOut, Sized, Fitting, Pulling, Full, WherePacked, WhereUnpacked};
 
 // Whether q and floor(q/M) are powers of two.
 fn packable(p: Parameters) -> bool
@@ -65,15 +66,32 @@ fn layout(p: Parameters) -> Layout
     }
 }
 
+// Document 01's B: the bits of all symbols.
+fn bit_count(l: Layout) -> usize
+    requires { ⌜ Narrow l × (l .leading ≤ l .n) ⌝ }
+    ensures { λ k. ⌜ (k ≡ sumTo (l .n) (widthIn l)) × (k ≤ 8192) ⌝ }
+{
+    let n = l.n;
+    let leading = l.leading;
+    let checks = byte_helpers::times(n - leading, l.narrow);
+    byte_helpers::times(leading, l.wide) + checks
+}
+
 // How many bytes have all bits: ceil(B/8).
 fn byte_count(l: Layout) -> usize
     requires { ⌜ Narrow l × (l .leading ≤ l .n) ⌝ }
     ensures { λ k. ⌜ (k ≡ (sumTo (l .n) (widthIn l) + 7) / 8) × (k ≤ 1024) ⌝ }
 {
-    let n = l.n;
-    let leading = l.leading;
-    let checks = byte_helpers::times(n - leading, l.narrow);
-    (byte_helpers::times(leading, l.wide) + checks + 7) / 8
+    (bit_count(l) + 7) / 8
+}
+
+// Whether a leftover bit of the last byte is set: the number that they make is not 0. At most seven bits are left over.
+fn leftover_set(bytes: &[u8], l: Layout) -> bool
+    requires { ⌜ Narrow l × (l .leading ≤ l .n) ⌝ }
+    ensures { λ b. ⌜ ((p : Code) → LaidOut p l → b ≡ leftoverSet p (now (bytes .entry))) ⌝ }
+{
+    let end = bit_count(l);
+    0 < bits::symbol_at(bytes, end, 8 * byte_count(l) - end)
 }
 
 // Bits of a message that stand in no byte yet: those of the first `cells` symbols, which are the first `end` bits, from the present
@@ -146,7 +164,7 @@ fn store_packed(message: &[u8], l: Layout, out: &mut [u8])
 pub fn pack(body: &[u8], message: &[u8], out: &mut [u8]) -> WriteAnswer
     ensures result { λ r. ⌜ leaves (writtenAs r) (now (out .exit)) ≡ packCode (now (body .entry)) (now (message .entry)) (now (out .entry)) ⌝ }
     ensures packed { λ r. ⌜ WherePacked (now (body .entry)) (now (message .entry)) (now (out .entry))
-        (λ p. Packed p (now (message .entry)) (writtenAs r) (now (out .exit))) ⌝ }
+        (λ p. Packed (now (body .entry)) p (now (message .entry)) (writtenAs r) (now (out .exit))) ⌝ }
 {
     let o = open_packable(body);
     let Opened::Open {
@@ -180,11 +198,11 @@ fn store_symbols(t: Taking, out: &mut [u8])
     }
 }
 
-// Document 01: bytes, to a message.
+// Document 01: bytes, to a message; document 02, wish 3: 19 after 8.
 pub fn unpack(body: &[u8], bytes: &[u8], out: &mut [u8]) -> WriteAnswer
     ensures result { λ r. ⌜ leaves (writtenAs r) (now (out .exit)) ≡ unpackCode (now (body .entry)) (now (bytes .entry)) (now (out .entry)) ⌝ }
     ensures unpacked { λ r. ⌜ WhereUnpacked (now (body .entry)) (now (bytes .entry)) (now (out .entry))
-        (λ p. Unpacked p (now (bytes .entry)) (writtenAs r) (now (out .exit))) ⌝ }
+        (λ p. Unpacked (now (body .entry)) p (now (bytes .entry)) (writtenAs r) (now (out .exit))) ⌝ }
 {
     let o = open_packable(body);
     let Opened::Open {
@@ -198,6 +216,9 @@ pub fn unpack(body: &[u8], bytes: &[u8], out: &mut [u8]) -> WriteAnswer
     let l = layout(p);
     if !answers::buffers_fit(bytes.len(), byte_count(l), out.len(), p.n) {
         return WriteAnswer::Refused(Refusal::WrongBuffer);
+    }
+    if leftover_set(bytes, l) {
+        return WriteAnswer::Refused(Refusal::LeftoverBitSet);
     }
     store_symbols(bit_reader::take_symbols(bytes, l), out);
     WriteAnswer::Written

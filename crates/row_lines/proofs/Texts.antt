@@ -64,7 +64,7 @@ spaced-short (v ∷ x) =
     let b = spaced-short x in
     simp length-append (omega arith)
 
-pub refusal-small : (x : Refusal) → refusalNumber x ≤ 18
+pub refusal-small : (x : Refusal) → refusalNumber x ≤ 19
 refusal-small refusal.TooShort = omega arith
 refusal-small refusal.OutOfRange = omega arith
 refusal-small refusal.WrongLength = omega arith
@@ -84,6 +84,7 @@ refusal-small refusal.WrongContents = omega arith
 refusal-small refusal.WrongBody = omega arith
 refusal-small refusal.TooManyMessages = omega arith
 refusal-small refusal.NumberTooLarge = omega arith
+refusal-small refusal.LeftoverBitSet = omega arith
 
 -- a refusal's text, with its plane or without
 pub refused-text : (k : ℕ) (j : Option ℕ) (levels : List ℕ) → refusedText ++ decimal k ≡ outcomeText (withPlane k j) levels

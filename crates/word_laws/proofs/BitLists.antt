@@ -1,18 +1,21 @@
 -- Bytes by their bits, and the bits of a message: the symbol of cell i + 1 has w i bits, from bit w 0 + .. + w (i - 1) on.
 use mathlib.Core.Path.{_≡_, refl, sym, ap, _∙_, subst}
+use mathlib.Core.Bool.{Bool, true, false}
 use mathlib.Core.List.{List, [], _++_, map}
 use Prim.Native.Nat.{ℕ, zero, suc, _+_, _*_, _-_, _/_, _%_, _^_, _≤_, _<_}
 use native.Mathlib.Nat.{add-assoc, zero-add, mul-comm, mod-lt, div-add-mod', div-lt-iff-lt-mul, mod-eq-of-lt}
 use native.Mathlib.Decide.{decLt}
 use native.Mathlib.Omega.{arith}
 use lib.Arith.{digits-div, digits-mod}
+use lib.Dec.{T, eqb}
 use lib.ListN.{length, getD, length-append, length-map, List·getD-append}
-use lib.Seq.{getD-append-add}
-use Rattle.definitions.specs.Words.{at, sumTo, upFrom}
+use lib.Seq.{ext-getD, getD-append-add}
+use borrow.Author.Tests.{eq-eqb, ne-eqb}
+use Rattle.definitions.specs.Words.{at, sumTo, upFrom, allZero}
 use Rattle.definitions.specs.PowersOfTwo.{bit, fromBits}
-use Rattle.definitions.specs.Packing.{bitOf, bytesOf, bitsOf, symbolAt}
-use Rattle.word_laws.proofs.Cells.{at-past, at-upFrom, length-upFrom, map-same}
-use Rattle.word_laws.proofs.Bits.{Bits, bit-small, bits-same, bits-apart, bits-of, bits-whole, bit-from, bit-shifted}
+use Rattle.definitions.specs.Packing.{bitOf, bytesOf, bitsOf, symbolAt, Bytes}
+use Rattle.word_laws.proofs.Cells.{at-past, each-at, at-each, at-upFrom, length-upFrom, upFrom-bounds, upFrom-mem, map-same, zero-map, some-map}
+use Rattle.word_laws.proofs.Bits.{Bits, bit-small, bits-same, bits-zero, bits-apart, bits-below, bits-of, bits-whole, bit-from, bit-above, bit-shifted}
 
 -- bytes
 pub bytes-long : (m : ℕ) (f : ℕ → ℕ) → length (bytesOf m f) ≡ m
@@ -21,10 +24,17 @@ bytes-long m f = length-map (upFrom 0 m) (λ j. fromBits 8 (λ i. f (8 * j + i))
 pub bytes-at : (m : ℕ) (f : ℕ → ℕ) (j : ℕ) → j < m → at (bytesOf m f) j ≡ fromBits 8 (λ i. f (8 * j + i))
 bytes-at m f j h = at-upFrom (λ j. fromBits 8 (λ i. f (8 * j + i))) 0 m j h ∙ ap (λ (k : ℕ). fromBits 8 (λ i. f (8 * k + i))) (zero-add j)
 
-pub bytes-same : (m : ℕ) (f g : ℕ → ℕ) → ((k : ℕ) → f k ≡ g k) → bytesOf m f ≡ bytesOf m g
+pub bytes-same : (m : ℕ) (f g : ℕ → ℕ) → ((k : ℕ) → k < 8 * m → f k ≡ g k) → bytesOf m f ≡ bytesOf m g
 bytes-same m f g h =
-    map-same (λ j. fromBits 8 (λ i. f (8 * j + i))) (λ j. fromBits 8 (λ i. g (8 * j + i))) (upFrom 0 m) (λ j _.
-    bits-same 8 (λ i. f (8 * j + i)) (λ i. g (8 * j + i)) (λ i _. h (8 * j + i)))
+    map-same (λ j. fromBits 8 (λ i. f (8 * j + i))) (λ j. fromBits 8 (λ i. g (8 * j + i))) (upFrom 0 m) (λ j e.
+    let b = upFrom-bounds 0 m j e in
+    bits-same 8 (λ i. f (8 * j + i)) (λ i. g (8 * j + i)) (λ i l. h (8 * j + i) (omega arith)))
+
+pub bytes-small : (m : ℕ) (f : ℕ → ℕ) → Bits f → Bytes (bytesOf m f)
+bytes-small m f small =
+    at-each (λ v. v < 256) (bytesOf m f) (λ j h.
+    let l = bytes-long m f in
+    rw (bytes-at m f j (omega arith)) (bits-below (λ i. f (8 * j + i)) (λ i. small (8 * j + i)) 8))
 
 -- bit k stands at its place in its byte
 pub placed : (k : ℕ) → 8 * (k / 8) + k % 8 ≡ k
@@ -40,6 +50,36 @@ bit-of-bytes m f small k h =
 pub bit-in-byte : (bytes : List ℕ) (j i : ℕ) → i < 8 → bitOf bytes (8 * j + i) ≡ bit (at bytes j) i
 bit-in-byte bytes j i h = rw (mul-comm 8 j, digits-div j h, digits-mod j h)
 
+-- a byte by its bits, and all bytes
+pub byte-back : (bytes : List ℕ) (j : ℕ) → at bytes j ≤ 255 → fromBits 8 (λ i. bitOf bytes (8 * j + i)) ≡ at bytes j
+byte-back bytes j h =
+    bits-same 8 (λ i. bitOf bytes (8 * j + i)) (bit (at bytes j)) (λ i k. bit-in-byte bytes j i k)
+    ∙ bits-whole (at bytes j) 8 (omega arith)
+
+pub bytes-back : (bytes : List ℕ) → Bytes bytes → bytesOf (length bytes) (bitOf bytes) ≡ bytes
+bytes-back bytes small =
+    ext-getD 0 (bytesOf (length bytes) (bitOf bytes)) bytes (bytes-long (length bytes) (bitOf bytes)) (λ j h.
+    let l = bytes-long (length bytes) (bitOf bytes) in
+    let g : j < length bytes = omega arith in
+    let b = each-at (λ v. v < 256) bytes small j g in
+    bytes-at (length bytes) (bitOf bytes) j g ∙ byte-back bytes j (omega arith))
+
+-- bits that are all 0 make the number 0, and no others do
+pub symbol-zero : (bytes : List ℕ) (k w : ℕ) → allZero (map (bitOf bytes) (upFrom k w)) ≡ eqb (symbolAt bytes k w) 0
+symbol-zero bytes k w = step (allZero (map (bitOf bytes) (upFrom k w))) refl
+  where
+    step : (t : Bool) → allZero (map (bitOf bytes) (upFrom k w)) ≡ t → t ≡ eqb (symbolAt bytes k w) 0
+    step true e = sym (eq-eqb (symbolAt bytes k w) 0 (bits-zero w (λ i. bitOf bytes (k + i)) (λ i h.
+        zero-map (bitOf bytes) (upFrom k w) (subst T (sym e) tt) (k + i) (upFrom-mem k w (k + i) (omega arith) (omega arith)))))
+    step false e =
+        let (j, m, other) = some-map (bitOf bytes) (upFrom k w) e in
+        let b = upFrom-bounds k w j m in
+        let place : k + (j - k) ≡ j = omega arith in
+        sym (ne-eqb (symbolAt bytes k w) 0 (λ z. other
+        (ap (bitOf bytes) (sym place)
+        ∙ sym (bit-from (λ i. bitOf bytes (k + i)) (λ i. bit-small (at bytes ((k + i) / 8)) ((k + i) % 8)) w (j - k) (omega arith))
+        ∙ ap (λ (x : ℕ). bit x (j - k)) z ∙ bit-above 0 0 (j - k) (omega arith) (omega arith))))
+
 -- two bytes that stand together
 module _ (bytes : List ℕ) (j : ℕ) (lo : at bytes j ≤ 255) (hi : at bytes (j + 1) ≤ 255) where
   abbrev both : ℕ
@@ -52,14 +92,9 @@ module _ (bytes : List ℕ) (j : ℕ) (lo : at bytes j ≤ 255) (hi : at bytes (
   sixteen =
       sym (bits-apart from-here 8 8
       ∙ ap (λ (x : ℕ). x * 256 + fromBits 8 from-here)
-      (bits-same 8 (λ i. from-here (8 + i)) (λ i. bitOf bytes (8 * (j + 1) + i)) (λ i k. ap (bitOf bytes) (next i)) ∙ byte (j + 1) hi)
-      ∙ ap (λ (x : ℕ). at bytes (j + 1) * 256 + x) (byte j lo))
+      (bits-same 8 (λ i. from-here (8 + i)) (λ i. bitOf bytes (8 * (j + 1) + i)) (λ i k. ap (bitOf bytes) (next i)) ∙ byte-back bytes (j + 1) hi)
+      ∙ ap (λ (x : ℕ). at bytes (j + 1) * 256 + x) (byte-back bytes j lo))
     where
-      byte : (m : ℕ) → at bytes m ≤ 255 → fromBits 8 (λ i. bitOf bytes (8 * m + i)) ≡ at bytes m
-      byte m g =
-          bits-same 8 (λ i. bitOf bytes (8 * m + i)) (bit (at bytes m)) (λ i k. bit-in-byte bytes m i k)
-          ∙ bits-whole (at bytes m) 8 (omega arith)
-
       next : (i : ℕ) → 8 * j + (8 + i) ≡ 8 * (j + 1) + i
       next i = omega arith
 

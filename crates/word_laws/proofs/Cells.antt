@@ -1,5 +1,6 @@
 -- Words cell by cell.
-use mathlib.Core.Path.{_≡_, refl, sym, ap, ap₂, _∙_}
+use mathlib.Core.Path.{_≡_, refl, sym, ap, ap₂, _∙_, subst}
+use mathlib.Core.Bool.{Bool, true, false, _&&_}
 use mathlib.Core.Logic.{inl, inr}
 use mathlib.Core.List.{List, [], _∷_, map, List·Memᴰ, List·Memᴰ·head, List·Memᴰ·tail, List·Memᴰ·cases-cons, List·Memᴰ·not-nil}
 use Prim.Native.Nat.{ℕ, zero, suc, _+_, _≤_, _<_}
@@ -7,6 +8,7 @@ use native.Mathlib.Nat.{eq-or-lt-of-le, add-zero, suc-add, add-suc}
 use native.Mathlib.Omega.{arith}
 use lib.Dec.{T, eqb, eqb→eq}
 use lib.ListN.{length, set, replicate, take, drop, List·getD-eq-default}
+use borrow.Author.Tests.{eqb-false}
 use Rattle.definitions.specs.Words.{at, sumTo, upFrom, map2, allZero, EachCell}
 use Rattle.definitions.proofs.Tests.{and-left, and-right, and-both, eq-test}
 
@@ -115,3 +117,15 @@ map-zero f [] h = tt
 map-zero f (x ∷ ks) h =
     and-both (eqb (f x) 0) (allZero (map f ks)) (eq-test (f x) 0 (h x (List·Memᴰ·head refl)))
     (map-zero f ks (λ i m. h i (List·Memᴰ·tail m)))
+
+-- a function that is not 0 at each
+abbrev pub SomeNot0 : (ℕ → ℕ) → List ℕ → Type 0
+SomeNot0 f ks = (k : ℕ) × List·Memᴰ k ks × (f k ≡ 0 → ⊥)
+
+pub some-map : (f : ℕ → ℕ) (ks : List ℕ) → allZero (map f ks) ≡ false → SomeNot0 f ks
+some-map f [] e = absurd (subst T e tt)
+some-map f (x ∷ ks) e = step (eqb (f x) 0) refl e (λ g. some-map f ks g)
+  where
+    step : (t : Bool) → eqb (f x) 0 ≡ t → (t && allZero (map f ks)) ≡ false → (allZero (map f ks) ≡ false → SomeNot0 f ks) → SomeNot0 f (x ∷ ks)
+    step true h g rest = let (k, m, other) = rest g in (k, List·Memᴰ·tail m, other)
+    step false h g rest = (x, List·Memᴰ·head refl, eqb-false (f x) 0 h)

@@ -22,7 +22,7 @@ returns c =
     let out = e .last .1 .1 .0 in
     let n = c .of-write .ensures in
     let r = write-result a out _ (c .of-write .result) (e .ensures .0) n in
-    (r .0, (r .1, λ p o m l. pack-by p (now (s .args .message)) out a (c .of-write .result) n (e .ensures .1 p o m l)))
+    (r .0, (r .1, λ p o m l. pack-by (now (s .args .body)) p (now (s .args .message)) out a (c .of-write .result) n (e .ensures .1 p o m l)))
 
 pub levels-pack-spec : {M : Type 1} → statement M
 levels-pack-spec = tie.close (tie.spec pack-requires of-write-requires same-length returns)

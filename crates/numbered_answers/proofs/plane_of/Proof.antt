@@ -14,7 +14,7 @@ use Rattle.numbered_answers.proofs.plane_of.Tie as tie
 
 -- the places of the others in the enum
 abbrev others : List ℕ
-others = 0 ∷ 1 ∷ 2 ∷ 3 ∷ 4 ∷ 5 ∷ 6 ∷ 7 ∷ 8 ∷ 9 ∷ 10 ∷ 12 ∷ 13 ∷ 14 ∷ 15 ∷ 16 ∷ 17 ∷ 18 ∷ []
+others = 0 ∷ 1 ∷ 2 ∷ 3 ∷ 4 ∷ 5 ∷ 6 ∷ 7 ∷ 8 ∷ 9 ∷ 10 ∷ 12 ∷ 13 ∷ 14 ∷ 15 ∷ 16 ∷ 17 ∷ 18 ∷ 19 ∷ []
 
 plane-else : (x : Refusal) → OneOf others (tagOf Refusal′.the-type x) → 0 ≡ planeNumber x
 plane-else refusal.TooShort h = refl
@@ -36,6 +36,7 @@ plane-else refusal.WrongContents h = refl
 plane-else refusal.WrongBody h = refl
 plane-else refusal.TooManyMessages h = refl
 plane-else refusal.NumberTooLarge h = refl
+plane-else refusal.LeftoverBitSet h = refl
 
 enum-known-x : tie.Need-enum-known-x
 enum-known-x c = search needs

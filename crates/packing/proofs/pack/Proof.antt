@@ -15,7 +15,7 @@ use Rattle.definitions.specs.Messages.{Message, symbolsFit}
 use Rattle.definitions.specs.Packing.{packable, byteCount, bytesOf, bitsOf}
 use Rattle.definitions.specs.PackingOperations.{openPackable, packCode}
 use Rattle.code_theorems.proofs.Messages.{fits}
-use Rattle.code_theorems.proofs.Packing.{powers}
+use Rattle.code_theorems.proofs.Packing.{opens-powers}
 use Rattle.answers.specs.Answering.{leaves}
 use Rattle.answers.proofs.Beginning.{lengths, not-open, wrong-buffer, both-fit}
 use Rattle.opening.specs.Opening.{codeWith, part}
@@ -157,7 +157,7 @@ store-packed-requires c κs =
     let a = e .before .before .before in
     let narrow = subst Narrow (laid a) (a .layout .ensures .1) in (
       subst (λ (l : Layout). Fitting l (input s)) (sym (laid a))
-          (fitting (parameters k) (matrix k) (input s) (powers (description s) (code k) (opens k .code)) m narrow),
+          (fitting (parameters k) (matrix k) (input s) (opens-powers (description s) (code k) (opens k .code) .1) m narrow),
       omega (arith, long e .1, e .before .before .byte-count .ensures .1),
     )
 

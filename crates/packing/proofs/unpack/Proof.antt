@@ -1,18 +1,18 @@
 use mathlib.Core.Path.{_≡_, refl, sym, ap, subst, _∙_}
-use mathlib.Core.Bool.{true}
+use mathlib.Core.Bool.{Bool, true, false}
 use mathlib.Core.List.{List}
 use Prim.Native.Nat.{ℕ, _+_, _/_}
 use native.Mathlib.Omega.{arith}
 use lib.Dec.{T}
 use lib.ListN.{length, take}
 use denote.Ref.{now}
+use mir.Syntax.{w8}
+use mir.Val.{Fits}
 use borrow.Author.Needs.{needs}
-use borrow.Author.Tests.{not-true, not-false}
 use Rattle.definitions.specs.Words.{at, sumTo}
-use Rattle.definitions.specs.Answers.{given, Result, result}
+use Rattle.definitions.specs.Answers.{given, Result, refuse_when_else_, result}
 use Rattle.definitions.specs.Codes.{Code}
-use Rattle.definitions.specs.Messages.{Message, symbolsFit}
-use Rattle.definitions.specs.Packing.{packable, byteCount, bytesOf, bitsOf}
+use Rattle.definitions.specs.Packing.{byteCount, unpack, leftoverSet}
 use Rattle.definitions.specs.PackingOperations.{openPackable, unpackCode}
 use Rattle.answers.specs.Answering.{leaves}
 use Rattle.answers.proofs.Beginning.{lengths, not-open, wrong-buffer, both-fit}
@@ -20,8 +20,8 @@ use Rattle.opening.specs.Opening.{codeWith, part}
 use Rattle.opening.specs.declared.Parameters.{Parameters}
 use Rattle.bit_reader.specs.Taking.{widthIn, Narrow, Taken}
 use Rattle.bit_reader.specs.declared.Layout.{Layout}
-use Rattle.packing.specs.Packing.{layoutOf, Fitting}
-use Rattle.packing.proofs.Operations.{OpensPackable, opens-as, opening-refused, sized, count-is, unpackRest, unpack-clauses, unpacks}
+use Rattle.packing.specs.Packing.{layoutOf, LaidOut}
+use Rattle.packing.proofs.Operations.{OpensPackable, opens-as, opening-refused, sized, count-is, widths, unpackRest, unpack-clauses, unpacks}
 use Rattle.packing.proofs.unpack.Statement.{statement}
 use Rattle.packing.proofs.unpack.Tie as tie
 
@@ -52,6 +52,10 @@ matrix c = part (description (start c)) (from c) (to c)
 
 abbrev code : tie.After-known-told → Code
 code c = codeWith (parameters c) (matrix c)
+
+-- what is lent are bytes
+small : (c : tie.After-shared-slice-known2) (i : ℕ) → Fits w8 (at (input (c .before .before)) i)
+small c = c .shared-slice-known2 .given
 
 opens : (c : tie.After-known-told) → OpensPackable (description (start c)) (parameters c) (from c) (to c)
 opens c =
@@ -105,7 +109,7 @@ returns c =
     let s = c .before .before .before .before .before .before .before in
     let o = c .before .before .before .open-packable in
     let y = c .why-refused .result in
-    unpack-clauses (description s) (input s) (lent s)
+    unpack-clauses (description s) (input s) (lent s) (small (c .before .before .before .before .before))
     (not-open (openPackable (description s)) (input s) (lent s) byteCount (λ p. p .n) (unpackRest (input s)) y
     (opening-refused (description s) (o .result) (o .ensures .0) y (c .why-refused .ensures)))
 
@@ -123,34 +127,58 @@ unfolding unpackCode
 returns-2 c =
     let k = c .before .before .before .before in
     let s = start k in
-    unpack-clauses (description s) (input s) (lent s)
+    unpack-clauses (description s) (input s) (lent s) (small (k .before .before .before .before .before))
     (wrong-buffer (openPackable (description s)) (input s) (lent s) byteCount (λ p. p .n) (unpackRest (input s)) (code k) (opens k .code)
     _ _ (counted (c .before .before)) refl (c .before .buffers-fit .result) (c .before .buffers-fit .ensures) (c .if1 .taken))
+
+leftover-set-requires : tie.Need-leftover-set-requires
+leftover-set-requires c κs = let l = c .before .before .before in (l .layout .ensures .1, rw (laid l) (omega arith))
+
+-- what leftover_set told is told of the code
+told : (c : tie.After-leftover-set) → c .leftover-set .result ≡ leftoverSet (code (at-told (c .before))) (input (start (at-told (c .before))))
+told c =
+    let k = at-told (c .before) in
+    c .leftover-set .ensures (code k)
+    (subst (LaidOut (code k)) (sym (laid (c .before .before .before .before))) (refl, widths (parameters k) (matrix k)))
+
+-- what is left of the operation with t for that test, which is t
+abbrev after-19 : tie.After-known-told → Bool → Result (Unit {0})
+after-19 k t = let s = start k in result (refuse 19 when t else given (tt, unpack (code k) (input s))) (lent s)
+
+decided : (c : tie.After-leftover-set) (t : Bool) → c .leftover-set .result ≡ t → after-19 (at-told (c .before)) t ≡ operation (start (at-told (c .before)))
+decided c t e = ap (after-19 (at-told (c .before))) (sym e ∙ told c) ∙ left (c .before)
+
+returns-3 : tie.Need-returns-3
+returns-3 c =
+    let k = at-told (c .before .before) in
+    let s = start k in
+    unpack-clauses (description s) (input s) (lent s) (small (k .before .before .before .before .before))
+    (decided (c .before) true (c .if2 .taken))
 
 take-symbols-requires : tie.Need-take-symbols-requires
 take-symbols-requires c κs = search needs
 
 store-symbols-requires : tie.Need-store-symbols-requires
 store-symbols-requires c κs =
-    let e = c .before .before in
+    let e = c .before .before .before .before in
     let h = opens (at-told e) .place .ready in
     (omega (arith, long e .1, h .n-high), c .before .take-symbols .ensures .room)
 
 same-length : tie.Need-same-length
 same-length c = search needs
 
-returns-3 : tie.Need-returns-3
-returns-3 c =
+returns-4 : tie.Need-returns-4
+returns-4 c =
     let t = c .before .before .before .before in
-    let e = t .before in
+    let e = t .before .before .before in
     let k = at-told e in
     let s = start k in
     let taken = subst (λ (l : Layout). Taken l (input s) (t .take-symbols .result)) (laid (e .before .before .before)) (t .take-symbols .ensures) in
-    unpack-clauses (description s) (input s) (lent s)
+    unpack-clauses (description s) (input s) (lent s) (small (k .before .before .before .before .before))
     (ap (leaves (given tt))
     (c .before .before .store-symbols .ensures ∙ ap (λ (m : ℕ). take m (t .take-symbols .result .symbols)) (long e .1)
     ∙ unpacks (parameters k) (matrix k) (input s) (t .take-symbols .result) (opens k .place .ready .n-high) taken)
-    ∙ left e)
+    ∙ decided (t .before .before) false (t .before .if2 .left))
 
 pub unpack-spec : {M : Type 1} → statement M
 unpack-spec =
@@ -165,7 +193,9 @@ unpack-spec =
     byte-count-requires
     buffers-fit-requires
     returns-2
+    leftover-set-requires
+    returns-3
     take-symbols-requires
     store-symbols-requires
     same-length
-    returns-3)
+    returns-4)
