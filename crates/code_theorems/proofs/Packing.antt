@@ -12,13 +12,13 @@ use lib.ListN.{length, take, drop, length-map, length-drop}
 use lib.Seq.{ext-getD, getD-take, getD-drop, length-take-le}
 use borrow.Author.Tests.{lt-ltb, le-ltb, le-leb, lt-leb, eq-eqb, not-true, not-false}
 use Rattle.definitions.specs.Words.{at, sumTo, upFrom, allZero}
-use Rattle.definitions.specs.Answers.{given, refused, refuse_when_else_}
+use Rattle.definitions.specs.Answers.{given, refused, gives, refuse_when_else_}
 use Rattle.definitions.specs.Codes.{Code, dataCells}
 use Rattle.definitions.specs.Messages.{Message, symbolsFit, encode, message}
 use Rattle.definitions.specs.CodeOperations.{openCode, encodeCode}
 use Rattle.definitions.specs.PowersOfTwo.{log2, isPowerOfTwo, bit, fromBits}
 use Rattle.definitions.specs.Packing.{radix, packable, width, bitCount, byteCount, bitOf, bytesOf, bitsOf, symbolAt, isLeftover, pack, unpack}
-use Rattle.definitions.specs.Packing.{leftoverBits, leftoverSet, Bytes, MessageBytes, BytesOneToOne}
+use Rattle.definitions.specs.Packing.{leftoverBits, Leftover, leftoverSet, Bytes, MessageBytes, BytesOneToOne}
 use Rattle.definitions.specs.PackingOperations.{openPackable, packCode, unpackCode, Packed, MessageTaken, Unpacked}
 use Rattle.definitions.proofs.Tests.{and-left, and-right}
 use Rattle.word_laws.proofs.Cells.{each-at, at-each, at-upFrom, length-upFrom, upFrom-bounds, upFrom-mem, zero-map, map-zero, some-map}
@@ -39,9 +39,9 @@ module _ (p : Code) where
   bits-fit = omega arith
 
   -- B a multiple of 8 leaves none over
-  pub no-leftover : bitCount p % 8 ≡ 0 → (k : ℕ) → bitCount p ≤ k → k < 8 * byteCount p → ⊥
+  pub no-leftover : bitCount p % 8 ≡ 0 → (k : ℕ) → Leftover p k → ⊥
   unfolding byteCount
-  no-leftover e k low high = omega arith
+  no-leftover e k (low, high) = omega arith
 
   -- bits with the leftover ones 0
   abbrev kept : (ℕ → ℕ) → ℕ → ℕ
@@ -69,7 +69,7 @@ module _ (p : Code) where
       record {
         long = bytes-long (byteCount p) (kept f);
         small = bytes-small (byteCount p) (kept f) small;
-        clear = λ k h g. bit-of-bytes (byteCount p) (kept f) small k g ∙ (rw (le-leb (bitCount p) k h));
+        clear = λ k (low, high). bit-of-bytes (byteCount p) (kept f) small k high ∙ (rw (le-leb (bitCount p) k low));
       }
 
   pub unpack-long : (bytes : List ℕ) → length (unpack p bytes) ≡ p .n
@@ -92,36 +92,36 @@ module _ (p : Code) where
       step : (k : ℕ) → k < 8 * byteCount p → Dec (k < bitCount p) → kept (at (bitsOf (width p) (unpack p x) (p .n))) k ≡ bitOf x k
       step k g (yes l) =
           rw (lt-leb (bitCount p) k l) (bits-back (width p) (unpack p x) (bitOf x) (bitOf-small x) (p .n) (unpack-at x) k l)
-      step k g (no l) = rw (le-leb (bitCount p) k (omega arith)) (sym (h .clear k (omega arith) g))
+      step k g (no l) = rw (le-leb (bitCount p) k (omega arith)) (sym (h .clear k (omega arith, g)))
 
   -- the test of leftover bits
   module _ (x : List ℕ) where
     abbrev Clear : Type 0
-    Clear = (k : ℕ) → bitCount p ≤ k → k < 8 * byteCount p → bitOf x k ≡ 0
+    Clear = (k : ℕ) → Leftover p k → bitOf x k ≡ 0
 
     abbrev from-B : List ℕ
     from-B = upFrom (bitCount p) (8 * byteCount p - bitCount p)
 
     pub test-clear : leftoverSet p x ≡ false → Clear
     unfolding leftoverSet
-    test-clear e k h g =
+    test-clear e k (low, high) =
         zero-map (bitOf x) from-B (subst T (sym (not-false (allZero (leftoverBits p x)) e)) tt) k
-        (upFrom-mem (bitCount p) (8 * byteCount p - bitCount p) k h (omega arith))
+        (upFrom-mem (bitCount p) (8 * byteCount p - bitCount p) k low (omega arith))
 
     pub clear-test : Clear → leftoverSet p x ≡ false
     unfolding leftoverSet
     clear-test h =
         let zeros = map-zero (bitOf x) from-B (λ k m.
         let b = upFrom-bounds (bitCount p) (8 * byteCount p - bitCount p) k m in
-        h k (omega arith) (omega arith)) in
+        h k (omega arith, omega arith)) in
         ap not (is-true (allZero (leftoverBits p x)) zeros)
 
-    pub test-set : leftoverSet p x ≡ true → (k : ℕ) × (bitCount p ≤ k) × (k < 8 * byteCount p) × (bitOf x k ≡ 1)
+    pub test-set : leftoverSet p x ≡ true → (k : ℕ) × Leftover p k × (bitOf x k ≡ 1)
     unfolding leftoverSet
     test-set e =
         let (k, m, other) = some-map (bitOf x) from-B (not-true (allZero (leftoverBits p x)) e) in
         let b = upFrom-bounds (bitCount p) (8 * byteCount p - bitCount p) k m in
-        (k, omega arith, omega arith, one (bitOf x k) (bitOf-small x k) other)
+        (k, (omega arith, omega arith), one (bitOf x k) (bitOf-small x k) other)
       where
         one : (v : ℕ) → v ≤ 1 → (v ≡ 0 → ⊥) → v ≡ 1
         one zero h other = absurd (other refl)
@@ -215,7 +215,7 @@ module _ (b : List ℕ) (p : Code) (opens : openPackable b ≡ given p) where
   one : BytesOneToOne p
   one = bytes-messages p (opens-powers .1)
 
-  packs : (s out : List ℕ) → Message p s → length out ≡ byteCount p → packCode b s out ≡ record { answer = given tt; out = pack p s }
+  packs : (s out : List ℕ) → Message p s → length out ≡ byteCount p → packCode b s out ≡ gives (pack p s)
   unfolding packCode
   packs s out m lo =
       rw (
@@ -226,7 +226,7 @@ module _ (b : List ℕ) (p : Code) (opens : openPackable b ≡ given p) where
       )
 
   -- what packing gave it made of a message
-  packed-message : (s lent x : List ℕ) → packCode b s lent ≡ record { answer = given tt; out = x } → Message p s × (pack p s ≡ x)
+  packed-message : (s lent x : List ℕ) → packCode b s lent ≡ gives x → Message p s × (pack p s ≡ x)
   unfolding packCode
   packed-message s lent x e =
       let (o, opened, long, lo, g) = given-fits (openPackable b) (λ o. o .n) byteCount _ s lent tt (ap (λ u. u .answer) e) in
@@ -235,12 +235,12 @@ module _ (b : List ℕ) (p : Code) (opens : openPackable b ≡ given p) where
       let m = fits p s (long ∙ ap (λ (c : Code). c .n) same) (is-true (symbolsFit p s) (subst (λ (c : Code). T (symbolsFit c s)) same h)) in
       (m, sym (ap (λ u. u .out) (packs s lent m (lo ∙ ap byteCount same))) ∙ ap (λ u. u .out) e)
 
-  unpacks : (x out : List ℕ) → MessageBytes p x → length out ≡ p .n → unpackCode b x out ≡ record { answer = given tt; out = unpack p x }
+  unpacks : (x out : List ℕ) → MessageBytes p x → length out ≡ p .n → unpackCode b x out ≡ gives (unpack p x)
   unfolding unpackCode
   unpacks x out h lo = rw (opens, eq-eqb (length x) (byteCount p) (h .long), eq-eqb (length out) (p .n) lo, clear-test p x (h .clear))
 
   -- what unpacking gave it took from a message's bytes
-  unpacked-bytes : (x lent s : List ℕ) → Bytes x → unpackCode b x lent ≡ record { answer = given tt; out = s } → MessageBytes p x × (unpack p x ≡ s)
+  unpacked-bytes : (x lent s : List ℕ) → Bytes x → unpackCode b x lent ≡ gives s → MessageBytes p x × (unpack p x ≡ s)
   unfolding unpackCode
   unpacked-bytes x lent s small e =
       let (o, opened, long, lo, g) = given-fits (openPackable b) byteCount (λ o. o .n) _ x lent tt (ap (λ u. u .answer) e) in
@@ -254,7 +254,7 @@ module _ (b : List ℕ) (p : Code) (opens : openPackable b ≡ given p) where
       (m, sym (ap (λ u. u .out) (unpacks x lent m (lo ∙ ap (λ (c : Code). c .n) same))) ∙ ap (λ u. u .out) e)
 
   -- bytes that unpack to the message s are those that pack makes of it
-  same-bytes : (x lent s : List ℕ) → Bytes x → unpackCode b x lent ≡ record { answer = given tt; out = s } → x ≡ pack p s
+  same-bytes : (x lent s : List ℕ) → Bytes x → unpackCode b x lent ≡ gives s → x ≡ pack p s
   same-bytes x lent s small e = let (h, g) = unpacked-bytes x lent s small e in sym (one .again x h) ∙ ap (pack p) g
 
   pub pack-demand : (s out : List ℕ) → Message p s → length out ≡ byteCount p → Packed b p s (packCode b s out .answer) (packCode b s out .out)
@@ -267,7 +267,7 @@ module _ (b : List ℕ) (p : Code) (opens : openPackable b ≡ given p) where
       })
 
   -- what is written for a message; two messages that are written as one row are one
-  row-of : (s c cells : List ℕ) → Message p s → encodeCode b s cells ≡ record { answer = given tt; out = c } → c ≡ encode p s
+  row-of : (s c cells : List ℕ) → Message p s → encodeCode b s cells ≡ gives c → c ≡ encode p s
   unfolding encodeCode
   row-of s c cells m e =
       let (o, opened, _, lo, _) = given-fits (openCode b) (λ o. o .n) (λ o. o .n) _ s cells tt (ap (λ u. u .answer) e) in
@@ -303,26 +303,26 @@ module _ (b : List ℕ) (p : Code) (opens : openPackable b ≡ given p) where
   unpack-demand x out small lx lo = step (leftoverSet p x) refl
     where
       -- bytes that pack made
-      made : (s lent : List ℕ) → packCode b s lent ≡ record { answer = given tt; out = x } → MessageBytes p x
+      made : (s lent : List ℕ) → packCode b s lent ≡ gives x → MessageBytes p x
       made s lent e = let (m, g) = packed-message s lent x e in subst (MessageBytes p) g (one .packed s m)
 
       step : (t : Bool) → leftoverSet p x ≡ t → Unpacked b p x (unpackCode b x out .answer) (unpackCode b x out .out)
       step true e =
-          let (k, low, high, set) = test-set p x e in
+          let (k, over, set) = test-set p x e in
           rw (refuses-19 x out lx lo e) (record {
             exactly = (
               (λ g. let z : _≡_ {A = ℕ} 0 1 = cc in absurd (omega arith)),
-              (λ (s, lent, g). absurd (omega (arith, set, made s lent g .clear k low high))),
+              (λ (s, lent, g). absurd (omega (arith, set, made s lent g .clear k over))),
             );
             leftover = ((λ _. refl), (λ _. test-set p x e));
-            whole = λ h. absurd (no-leftover p h k low high);
+            whole = λ h. absurd (no-leftover p h k over);
             taken = λ g. (let z : _≡_ {A = ℕ} 0 1 = cc in absurd (omega arith));
           })
       step false e =
           let h : MessageBytes p x = record { long = lx; small = small; clear = test-clear p x e } in
           rw (unpacks x out h lo) (record {
             exactly = ((λ _. (unpack p x, x, message-taken x h .back x lx)), (λ _. refl));
-            leftover = ((λ (k, low, high, set). absurd (omega (arith, set, h .clear k low high))), (λ g. absurd (Option·none-ne-some 19 g)));
+            leftover = ((λ (k, over, set). absurd (omega (arith, set, h .clear k over))), (λ g. absurd (Option·none-ne-some 19 g)));
             whole = λ _. refl;
             taken = λ _. message-taken x h;
           })

@@ -3,15 +3,15 @@
 use mathlib.Core.Path.{_≡_, refl, sym, ap, _∙_}
 use mathlib.Core.List.{List, [], _∷_}
 use mathlib.Core.Option.{Option·none-ne-some}
-use Prim.Native.Nat.{ℕ, _*_, _≤_, _<_}
+use Prim.Native.Nat.{ℕ}
 use native.Mathlib.Omega.{arith}
 use lib.ListN.{length}
-use Rattle.definitions.specs.Answers.{Answer, given, refused, Result}
+use Rattle.definitions.specs.Answers.{Answer, given, refused, Result, gives}
 use Rattle.definitions.specs.Codes.{Code, codeOf}
 use Rattle.definitions.specs.Patterns.{patternCount}
 use Rattle.definitions.specs.CodeOperations.{inRange, openCode, encodeCode}
 use Rattle.definitions.specs.PowersOfTwo.{log2, isPowerOfTwo}
-use Rattle.definitions.specs.Packing.{packable, bitCount, byteCount, bitOf, unpack, leftoverSet, Bytes}
+use Rattle.definitions.specs.Packing.{packable, bitCount, byteCount, bitOf, unpack, Leftover, leftoverSet, Bytes}
 use Rattle.definitions.specs.PackingOperations.{openPackable, packCode, unpackCode, Packed, Unpacked}
 use Rattle.definitions.specs.Examples.{R, lent}
 use Rattle.definitions.specs.FurtherExamples.{allData}
@@ -25,7 +25,7 @@ message = 3 ∷ 2 ∷ 1 ∷ 0 ∷ 0 ∷ []
 abbrev bytes : List ℕ
 bytes = 51 ∷ 0 ∷ []
 
-has-message : unpackCode R bytes (lent 5) ≡ record { answer = given tt; out = message }
+has-message : unpackCode R bytes (lent 5) ≡ gives message
 unfolding
     R inRange patternCount openCode log2 isPowerOfTwo packable bitCount byteCount unpack leftoverSet openPackable unpackCode
 has-message = refl
@@ -46,19 +46,19 @@ whole-byte-refused x out k h = let e = h .whole refl in let z : _≡_ {A = ℕ} 
 
 module _ (b : List ℕ) (p : Code) where
   -- a leftover bit not looked at: document 01's rule, by which leftover bits are ignored
-  pub leftover-ignored : (x out : List ℕ) (k : ℕ) → bitCount p ≤ k → k < 8 * byteCount p → bitOf x k ≡ 1 → Unpacked b p x (given tt) out → ⊥
-  leftover-ignored x out k low high set h = Option·none-ne-some 19 (h .leftover .0 (k, low, high, set))
+  pub leftover-ignored : (x out : List ℕ) (k : ℕ) → Leftover p k → bitOf x k ≡ 1 → Unpacked b p x (given tt) out → ⊥
+  leftover-ignored x out k over set h = Option·none-ne-some 19 (h .leftover .0 (k, over, set))
 
   -- 19 although the leftover bits are 0
-  pub clear-refused : (x out : List ℕ) → ((k : ℕ) → bitCount p ≤ k → k < 8 * byteCount p → bitOf x k ≡ 0) → Unpacked b p x (refused 19) out → ⊥
-  clear-refused x out clear h = let (k, low, high, set) = h .leftover .1 refl in omega (arith, set, clear k low high)
+  pub clear-refused : (x out : List ℕ) → ((k : ℕ) → Leftover p k → bitOf x k ≡ 0) → Unpacked b p x (refused 19) out → ⊥
+  clear-refused x out clear h = let (k, over, set) = h .leftover .1 refl in omega (arith, set, clear k over)
 
   -- bytes refused that pack made
-  pub made-refused : (s x out lent : List ℕ) (k : ℕ) → packCode b s lent ≡ record { answer = given tt; out = x } → Unpacked b p x (refused k) out → ⊥
+  pub made-refused : (s x out lent : List ℕ) (k : ℕ) → packCode b s lent ≡ gives x → Unpacked b p x (refused k) out → ⊥
   made-refused s x out lent k e h = let g = h .exactly .1 (s, lent, e) in let z : _≡_ {A = ℕ} 0 1 = cc in omega arith
 
   -- bytes taken that pack makes of no message
-  pub unmade-taken : (x out : List ℕ) → ((s lent : List ℕ) → packCode b s lent ≡ record { answer = given tt; out = x } → ⊥) → Unpacked b p x (given tt) out → ⊥
+  pub unmade-taken : (x out : List ℕ) → ((s lent : List ℕ) → packCode b s lent ≡ gives x → ⊥) → Unpacked b p x (given tt) out → ⊥
   unmade-taken x out never h = let (s, lent, e) = h .exactly .0 refl in never s lent e
 
   -- one message for two byte strings, also if the other one is unpacked by the definition
@@ -66,7 +66,7 @@ module _ (b : List ℕ) (p : Code) where
   one-for-two-strings x y out lent l h g =
       ap (λ (r : Result (Unit {0})). r .out) (sym (h .taken refl .back lent l) ∙ g .taken refl .back lent l)
 
-  pub other-string : (x y out lent : List ℕ) → Bytes y → unpackCode b y lent ≡ record { answer = given tt; out = out } → (y ≡ x → ⊥)
+  pub other-string : (x y out lent : List ℕ) → Bytes y → unpackCode b y lent ≡ gives out → (y ≡ x → ⊥)
       → Unpacked b p x (given tt) out → ⊥
   other-string x y out lent small e other h = other (h .taken refl .only y lent small e)
 
@@ -74,9 +74,9 @@ module _ (b : List ℕ) (p : Code) where
   pub one-row-for-two :
       (x y s t lent c cells more : List ℕ)
       → Bytes y
-      → unpackCode b y lent ≡ record { answer = given tt; out = t }
-      → encodeCode b t cells ≡ record { answer = given tt; out = c }
-      → encodeCode b s more ≡ record { answer = given tt; out = c }
+      → unpackCode b y lent ≡ gives t
+      → encodeCode b t cells ≡ gives c
+      → encodeCode b s more ≡ gives c
       → (y ≡ x → ⊥)
       → Unpacked b p x (given tt) s
       → ⊥
@@ -89,8 +89,8 @@ module _ (b : List ℕ) (p : Code) where
   pub other-length : (s out : List ℕ) (a : Answer (Unit {0})) → (length out ≡ byteCount p → ⊥) → Packed b p s a out → ⊥
   other-length s out a other h = other (h .isBytes .long)
 
-  pub leftover-made : (s out : List ℕ) (a : Answer (Unit {0})) (k : ℕ) → bitCount p ≤ k → k < 8 * byteCount p → bitOf out k ≡ 1 → Packed b p s a out → ⊥
-  leftover-made s out a k low high set h = omega (arith, set, h .isBytes .clear k low high)
+  pub leftover-made : (s out : List ℕ) (a : Answer (Unit {0})) (k : ℕ) → Leftover p k → bitOf out k ≡ 1 → Packed b p s a out → ⊥
+  leftover-made s out a k over set h = omega (arith, set, h .isBytes .clear k over)
 
   -- the same bytes for two messages
   pub one-for-two-messages : (s t out lent : List ℕ) (a : Answer (Unit {0})) → length lent ≡ p .n → Packed b p s a out → Packed b p t a out → s ≡ t

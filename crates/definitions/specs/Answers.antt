@@ -15,6 +15,10 @@ pub record Result (A : Type 0) : Type 0 where
   pub answer : Answer A
   pub out : List ℕ
 
+-- given, and the buffer holds x
+abbrev pub gives : List ℕ → Result (Unit {0})
+gives x = record { answer = given tt; out = x }
+
 infixr 5 refuse_when_else_
 module _ {A : Type 0} where
   -- the refusals of an operation stand in document 01's order: the first whose case holds is returned

@@ -63,6 +63,10 @@ unpack p bytes = map (λ i. symbolAt bytes (sumTo i (width p)) (width p i)) (upF
 abbrev pub leftoverBits : Code → List ℕ → List ℕ
 leftoverBits p bytes = map (bitOf bytes) (upFrom (bitCount p) (8 * byteCount p - bitCount p))
 
+-- bit k is one of them
+abbrev pub Leftover : Code → ℕ → Type 0
+Leftover p k = (bitCount p ≤ k) × (k < 8 * byteCount p)
+
 -- wish 3, in place of document 01's "leftover bits are ignored when a message is taken from bytes": "a leftover bit of the last byte is set"
 unfoldable pub leftoverSet : Code → List ℕ → Bool
 leftoverSet p bytes = not (allZero (leftoverBits p bytes))
@@ -74,7 +78,7 @@ Bytes x = EachCell (λ v. v < 256) x
 pub record MessageBytes (p : Code) (bytes : List ℕ) : Type 0 where
   pub long : length bytes ≡ byteCount p
   pub small : Bytes bytes
-  pub clear : (k : ℕ) → bitCount p ≤ k → k < 8 * byteCount p → bitOf bytes k ≡ 0
+  pub clear : (k : ℕ) → Leftover p k → bitOf bytes k ≡ 0
 
 -- messages and such bytes correspond one to one
 pub record BytesOneToOne (p : Code) : Type 0 where

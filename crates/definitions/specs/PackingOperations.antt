@@ -4,14 +4,14 @@ use mathlib.Core.Bool.{Bool, true, _&&_, not}
 use mathlib.Core.Logic.{_↔_}
 use mathlib.Core.List.{List}
 use mathlib.Core.Option.{some}
-use Prim.Native.Nat.{ℕ, _*_, _%_, _≤_, _<_}
+use Prim.Native.Nat.{ℕ, _%_}
 use lib.Dec.{eqb}
 use lib.ListN.{length}
-use Rattle.definitions.specs.Answers.{Answer, given, Result, refuse_when_else_, result, number, after}
+use Rattle.definitions.specs.Answers.{Answer, given, Result, gives, refuse_when_else_, result, number, after}
 use Rattle.definitions.specs.Codes.{Code}
 use Rattle.definitions.specs.Messages.{Message, symbolsFit}
 use Rattle.definitions.specs.CodeOperations.{openCode, encodeCode}
-use Rattle.definitions.specs.Packing.{packable, bitCount, byteCount, bitOf, pack, unpack, leftoverSet, Bytes, MessageBytes}
+use Rattle.definitions.specs.Packing.{packable, bitCount, byteCount, bitOf, pack, unpack, Leftover, leftoverSet, Bytes, MessageBytes}
 
 -- both begin so: "open; 14"
 unfoldable pub openPackable : List ℕ → Answer Code
@@ -42,31 +42,31 @@ pub record Packed (b : List ℕ) (p : Code) (s : List ℕ) (answer : Answer (Uni
   pub written : answer ≡ given tt
   pub isBytes : MessageBytes p out
   -- pack, then unpack, is the message
-  pub back : (lent : List ℕ) → length lent ≡ p .n → unpackCode b out lent ≡ record { answer = given tt; out = s }
-  pub only : (x lent : List ℕ) → Bytes x → unpackCode b x lent ≡ record { answer = given tt; out = s } → x ≡ out
+  pub back : (lent : List ℕ) → length lent ≡ p .n → unpackCode b out lent ≡ gives s
+  pub only : (x lent : List ℕ) → Bytes x → unpackCode b x lent ≡ gives s → x ≡ out
 
 -- of bytes that the description b unpacks to the message s: they are the bytes that pack makes of it
 pub record MessageTaken (b : List ℕ) (p : Code) (bytes s : List ℕ) : Type 0 where
   pub isMessage : Message p s
   -- unpack, then pack, is the bytes
-  pub back : (lent : List ℕ) → length lent ≡ byteCount p → packCode b s lent ≡ record { answer = given tt; out = bytes }
+  pub back : (lent : List ℕ) → length lent ≡ byteCount p → packCode b s lent ≡ gives bytes
   -- bytes that unpack to equal messages are equal
-  pub only : (x lent : List ℕ) → Bytes x → unpackCode b x lent ≡ record { answer = given tt; out = s } → x ≡ bytes
+  pub only : (x lent : List ℕ) → Bytes x → unpackCode b x lent ≡ gives s → x ≡ bytes
   -- "equal rows mean equal bytes": so are bytes whose messages are written as one row c
   pub rows :
       (x lent m c cells other : List ℕ)
       → Bytes x
-      → unpackCode b x lent ≡ record { answer = given tt; out = m }
-      → encodeCode b m cells ≡ record { answer = given tt; out = c }
-      → encodeCode b s other ≡ record { answer = given tt; out = c }
+      → unpackCode b x lent ≡ gives m
+      → encodeCode b m cells ≡ gives c
+      → encodeCode b s other ≡ gives c
       → x ≡ bytes
 
 -- of unpacking bytes with the description b
 pub record Unpacked (b : List ℕ) (p : Code) (bytes : List ℕ) (answer : Answer (Unit {0})) (out : List ℕ) : Type 0 where
   -- the bytes that unpack are exactly those that pack makes
-  pub exactly : (answer ≡ given tt) ↔ ((s lent : List ℕ) × (packCode b s lent ≡ record { answer = given tt; out = bytes }))
+  pub exactly : (answer ≡ given tt) ↔ ((s lent : List ℕ) × (packCode b s lent ≡ gives bytes))
   -- and the others are refused 19: those with a leftover bit set
-  pub leftover : ((k : ℕ) × (bitCount p ≤ k) × (k < 8 * byteCount p) × (bitOf bytes k ≡ 1)) ↔ (number answer ≡ some 19)
+  pub leftover : ((k : ℕ) × Leftover p k × (bitOf bytes k ≡ 1)) ↔ (number answer ≡ some 19)
   -- B a multiple of 8 has no leftover bits: 19 cannot come
   pub whole : bitCount p % 8 ≡ 0 → answer ≡ given tt
   pub taken : answer ≡ given tt → MessageTaken b p bytes out
