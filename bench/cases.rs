@@ -8,6 +8,8 @@ pub enum Operation {
     DecodeStack,
     MessageOfNumber,
     NumberOfMessage,
+    Pack,
+    Unpack,
 }
 
 pub struct Case {
@@ -16,7 +18,7 @@ pub struct Case {
     pub aim: f64,
     pub operation: Operation,
     pub body: Vec<u8>,
-    /// Empty for a test; for numbers the message.
+    /// Empty for a test; for numbers and for packing the message, for unpacking the bytes.
     pub word: Vec<u8>,
 }
 
@@ -39,6 +41,14 @@ impl Case {
 
     fn number_of_message(name: &str, aim: f64, body: &[u8], word: Vec<u8>) -> Case {
         Case { name: format!("number of message, {name}"), aim, operation: Operation::NumberOfMessage, body: body.to_vec(), word }
+    }
+
+    fn pack(name: &str, aim: f64, body: &[u8], word: Vec<u8>) -> Case {
+        Case { name: format!("pack, {name}"), aim, operation: Operation::Pack, body: body.to_vec(), word }
+    }
+
+    fn unpack(name: &str, aim: f64, body: &[u8], word: Vec<u8>) -> Case {
+        Case { name: format!("unpack, {name}"), aim, operation: Operation::Unpack, body: body.to_vec(), word }
     }
 }
 
@@ -161,6 +171,13 @@ pub fn two_digits_wrong_in_each_plane() -> Vec<u8> {
     word
 }
 
+/// The bytes of a message.
+fn packed(body: &[u8], message: &[u8]) -> Vec<u8> {
+    let mut bytes = vec![0; plain::packed_bytes(body).expect("powers of two")];
+    plain::pack(body, message, &mut bytes).expect("a sound message");
+    bytes
+}
+
 /// A code, accepted or not, and a word of it that is refused 11.
 fn refused(numbers: &mut Numbers, fields: [u8; 6], aim: f64) -> Case {
     let body = description(numbers, fields);
@@ -224,6 +241,16 @@ pub fn all() -> Vec<Case> {
     ] {
         cases.push(Case::message_of_number(name, 1.0, body, message.clone()));
         cases.push(Case::number_of_message(name, 1.0, body, message));
+    }
+    let two_widths = description(&mut numbers, [64, 12, 8, 2, 1, 1]);
+    // The most bytes that there are, which are whole; of the others some bits are left over.
+    for (name, body, message) in [
+        ("R, 11 bits", &[5, 4, 8, 2, 1, 2, 1, 1, 1, 1][..], vec![3, 2, 1, 0, 0]),
+        ("n 64 q 64, 384 bits", &[64, 0, 64, 2, 1, 0], (0..64).collect()),
+        ("n 64 r 12 q 8 M 2, 180 bits", &two_widths, (0..64).map(|cell| cell % 4).collect()),
+    ] {
+        cases.push(Case::unpack(name, 1.0, body, packed(body, &message)));
+        cases.push(Case::pack(name, 1.0, body, message));
     }
     cases
 }

@@ -4,7 +4,7 @@
 
 mod cases;
 #[path = "../bindings/rust/fingerkerf.rs"]
-#[allow(dead_code)] // The benchmark calls seven of the operations.
+#[allow(dead_code)] // The benchmark calls nine of the operations.
 mod fingerkerf;
 mod images;
 mod plain;
@@ -86,6 +86,34 @@ fn number_of_message_times(case: &Case) -> [f64; 2] {
     ])
 }
 
+/// An operation that takes a description and an input, and writes to an output.
+type Writing = fn(&[u8], &[u8], &mut [u8]) -> Result<(), usize>;
+
+fn writing_times(case: &Case, out_length: usize, ours: Writing, plain: Writing) -> [f64; 2] {
+    let (body, input) = (&case.body[..], &case.word[..]);
+    let (mut ours_out, mut plain_out) = (vec![0xaa; out_length], vec![0xaa; out_length]);
+    assert_eq!(ours(body, input, &mut ours_out), Ok(()), "{}", case.name);
+    assert_eq!(plain(body, input, &mut plain_out), Ok(()), "{}", case.name);
+    assert_eq!(ours_out, plain_out, "{}", case.name);
+    timing::least([
+        &mut || {
+            black_box(ours(black_box(body), black_box(input), black_box(&mut ours_out))).ok();
+        },
+        &mut || {
+            black_box(plain(black_box(body), black_box(input), black_box(&mut plain_out))).ok();
+        },
+    ])
+}
+
+fn pack_times(case: &Case) -> [f64; 2] {
+    let length = plain::packed_bytes(&case.body).expect("powers of two");
+    writing_times(case, length, fingerkerf::pack, plain::pack)
+}
+
+fn unpack_times(case: &Case) -> [f64; 2] {
+    writing_times(case, case.body[0].into(), fingerkerf::unpack, plain::unpack)
+}
+
 fn main() {
     println!("{:<62} {:>10} {:>13} {:>6} {:>8}", "case", "ours, ns", "plain, ns", "ratio", "at most");
     for case in cases::all() {
@@ -95,6 +123,8 @@ fn main() {
             Operation::DecodeStack => decode_times(&case, fingerkerf::decode_stack, plain::decode_stack),
             Operation::MessageOfNumber => message_of_number_times(&case),
             Operation::NumberOfMessage => number_of_message_times(&case),
+            Operation::Pack => pack_times(&case),
+            Operation::Unpack => unpack_times(&case),
         };
         let ratio = ours / plain;
         let note = if ratio > case.aim { "above" } else { "" };

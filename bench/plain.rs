@@ -1,6 +1,7 @@
 //! Document 01's plans and stacks in plain Rust: what the benchmark compares the proved library with.
 
 use std::collections::HashSet;
+use std::iter::repeat_n;
 
 pub struct Plan<'a> {
     pub n: usize,
@@ -128,6 +129,16 @@ impl<'a> Plan<'a> {
         (if cell < self.n - self.r { self.q } else { self.q / self.m }) as u64
     }
 
+    /// The bits of each symbol.
+    fn widths(&self) -> impl Iterator<Item = u32> {
+        repeat_n(self.q.ilog2(), self.n - self.r).chain(repeat_n((self.q / self.m).ilog2(), self.r))
+    }
+
+    /// The bits of a message.
+    fn bits(&self) -> usize {
+        self.widths().sum::<u32>() as usize
+    }
+
     /// The product of all radices, or 17 when it is above 2^63.
     fn messages(&self) -> Result<u64, usize> {
         let mut product = 1u64;
@@ -207,6 +218,69 @@ pub fn number_of_message(body: &[u8], message: &[u8]) -> Result<u64, usize> {
         return Err(9);
     }
     Ok(message.iter().enumerate().rev().fold(0, |number, (cell, &symbol)| number * plan.radix(cell) + symbol as u64))
+}
+
+fn open_packable(body: &[u8]) -> Result<Plan<'_>, usize> {
+    let plan = Plan::open(body)?;
+    if plan.q.is_power_of_two() && (plan.q / plan.m).is_power_of_two() {
+        Ok(plan)
+    } else {
+        Err(14)
+    }
+}
+
+/// The bytes of a packed message.
+pub fn packed_bytes(body: &[u8]) -> Result<usize, usize> {
+    Ok(open_packable(body)?.bits().div_ceil(8))
+}
+
+/// A message to bytes.
+pub fn pack(body: &[u8], message: &[u8], bytes: &mut [u8]) -> Result<(), usize> {
+    let plan = open_packable(body)?;
+    if message.len() != plan.n || bytes.len() != plan.bits().div_ceil(8) {
+        return Err(8);
+    }
+    if message.iter().zip(plan.widths()).any(|(symbol, width)| symbol >> width != 0) {
+        return Err(9);
+    }
+    let mut symbols = message.iter().zip(plan.widths());
+    let (mut held, mut count) = (0u32, 0);
+    for byte in bytes {
+        while count < 8 {
+            let Some((&symbol, width)) = symbols.next() else { break };
+            held |= (symbol as u32) << count;
+            count += width;
+        }
+        *byte = held as u8;
+        held >>= 8;
+        count = count.saturating_sub(8);
+    }
+    Ok(())
+}
+
+/// A message from bytes.
+pub fn unpack(body: &[u8], bytes: &[u8], message: &mut [u8]) -> Result<(), usize> {
+    let plan = open_packable(body)?;
+    let bits = plan.bits();
+    if bytes.len() != bits.div_ceil(8) || message.len() != plan.n {
+        return Err(8);
+    }
+    let leftover = 8 * bytes.len() - bits;
+    if bytes.last().is_some_and(|last| (last.leading_zeros() as usize) < leftover) {
+        return Err(19);
+    }
+    let mut rest = bytes.iter();
+    let (mut held, mut count) = (0u32, 0);
+    for (symbol, width) in message.iter_mut().zip(plan.widths()) {
+        if count < width {
+            held |= rest.next().map_or(0, |&byte| (byte as u32) << count);
+            count += 8;
+        }
+        *symbol = (held & ((1 << width) - 1)) as u8;
+        held >>= width;
+        count -= width;
+    }
+    Ok(())
 }
 
 /// A stack's planes, each as a plan.

@@ -28,6 +28,8 @@ mod memory;
 mod numbers;
 #[path = "differential/order/mod.rs"]
 mod order;
+#[path = "differential/packed.rs"]
+mod packed;
 #[path = "differential/program.rs"]
 mod program;
 #[path = "differential/random.rs"]

@@ -1,5 +1,5 @@
-/* Document 01's examples, and a transponder number as document 02 wants it, through the C boundary. Prints a line for each that fails,
- * then how many passed. */
+/* Document 01's examples, and a transponder number and leftover bits as document 02 wants them, through the C boundary. Prints a line for
+ * each that fails, then how many passed. */
 #include <stdio.h>
 #include <string.h>
 
@@ -55,6 +55,11 @@ static levels_reading decode_stack(const uint8_t *body, size_t body_len, const u
 static size_t message_of_number(const uint8_t *body, size_t body_len, uint64_t value, uint8_t *out, size_t n) {
     memset(out, 9, n);
     return levels_message_of_number(body, body_len, value, out, n);
+}
+
+static size_t unpack(const uint8_t *body, size_t body_len, const uint8_t *bytes, size_t bytes_len, uint8_t *out, size_t n) {
+    memset(out, 9, n);
+    return levels_unpack(body, body_len, bytes, bytes_len, out, n);
 }
 
 static int has_number(levels_value v, size_t number, uint64_t value) {
@@ -127,6 +132,19 @@ static void numbers(void) {
     expect("17, back", has_number(levels_number_of_message(above, sizeof above, out, 64), 17, 0));
 }
 
+/* A message of R has 11 bits, so that of two bytes the last five bits are left over. Rubbish in one of them is refused; whole bytes
+ * have none. */
+static void leftover_bits(void) {
+    uint8_t out[8], packed[2];
+    const uint8_t message[] = {3, 2, 1, 0, 0}, clean[] = {51, 0}, lowest[] = {51, 8}, highest[] = {51, 128};
+    const uint8_t whole[] = {8, 0, 2, 2, 1, 0}, byte[] = {255}, ones[] = {1, 1, 1, 1, 1, 1, 1, 1};
+    expect("bytes", levels_pack(R, sizeof R, message, 5, packed, 2) == 0 && memcmp(packed, clean, 2) == 0);
+    expect("bytes, back", unpack(R, sizeof R, clean, 2, out, 5) == 0 && memcmp(out, message, 5) == 0);
+    expect("19", unpack(R, sizeof R, lowest, 2, out, 5) == 19 && untouched(out, 5));
+    expect("19, highest bit", unpack(R, sizeof R, highest, 2, out, 5) == 19 && untouched(out, 5));
+    expect("no leftover bits", unpack(whole, sizeof whole, byte, 1, out, 8) == 0 && memcmp(out, ones, 8) == 0);
+}
+
 static void image(void) {
     uint8_t out[5];
     const uint8_t x[] = {2, 1, 0, 13, 0, 10, 0, 3, 1, 23, 0, 5, 0, 5, 4, 8, 2, 1, 2, 1, 1, 1, 1, 4, 5, 3, 2, 1};
@@ -143,6 +161,7 @@ int main(void) {
     stacks();
     transponder();
     numbers();
+    leftover_bits();
     image();
     printf("examples in C: %d passed, %d failed\n", passed, failed);
     return failed != 0;

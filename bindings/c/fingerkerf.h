@@ -26,6 +26,7 @@
  *   16  a body refused by its test, or a reference    one body of the image is damaged
  *   17  more than 2^63 messages                       choose fewer cells or levels; the messages of this body have no 64-bit numbers
  *   18  a number that no message has                  it must be below the product of all radices
+ *   19  a leftover bit of the last byte is set        clear the bits past the last symbol; packing leaves them 0
  *
  * Reading a plan or a stack does not test it: levels_test and levels_test_stack do. Without a passed test a row may be mended in
  * two ways; with one, the codeword within reach is the only one (document 01, demand 3).
@@ -92,7 +93,8 @@ size_t levels_make_labels(size_t kind, uint8_t *table, size_t table_len);
 size_t levels_to_levels(const uint8_t *table, size_t table_len, const uint8_t *states, size_t states_len, uint8_t *levels, size_t levels_len);
 size_t levels_to_states(const uint8_t *table, size_t table_len, const uint8_t *levels, size_t levels_len, uint8_t *states, size_t states_len);
 
-/* Bytes: a plan's message to and from levels_packed_bytes bytes. */
+/* Bytes: a plan's message to and from levels_packed_bytes bytes. The bits of the last byte past the last symbol are left over: packing
+ * leaves them 0, and unpacking refuses (19) when one is set, so that equal rows mean equal bytes. */
 size_t levels_pack(const uint8_t *body, size_t body_len, const uint8_t *message, size_t message_len, uint8_t *bytes, size_t bytes_len);
 size_t levels_unpack(const uint8_t *body, size_t body_len, const uint8_t *bytes, size_t bytes_len, uint8_t *message, size_t message_len);
 

@@ -223,7 +223,7 @@ pub fn pack(body: &[u8], message: &[u8], bytes: &mut [u8]) -> Result<(), usize> 
     done(unsafe { boundary::levels_pack(input(body), body.len(), input(message), message.len(), output(bytes), bytes.len()) })
 }
 
-/// A code's message from bytes: `message` has n symbols.
+/// A code's message from bytes: `message` has n symbols. Bits of the last byte past the last symbol must be 0 (19).
 pub fn unpack(body: &[u8], bytes: &[u8], message: &mut [u8]) -> Result<(), usize> {
     done(unsafe { boundary::levels_unpack(input(body), body.len(), input(bytes), bytes.len(), output(message), message.len()) })
 }

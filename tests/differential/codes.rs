@@ -1,11 +1,11 @@
-//! Cases of the operations on codes and on their packed messages.
+//! Cases of the operations on codes, those on bytes and on numbers of their messages included.
 
 use crate::case::{Case, Operation};
 use crate::generate::{code_body, damage, faulty_input_cases, made, Made};
-use crate::numbers;
 use crate::random::Random;
 use crate::second::code::Code;
 use crate::second::packing;
+use crate::{numbers, packed};
 
 pub const TOO_MANY_CELLS: &str = "t + 1 cells of a code risen";
 pub const TOO_FAR: &str = "a rise of l + 1";
@@ -59,10 +59,8 @@ fn sound_code_cases(body: &[u8], code: &Code, random: &mut Random) -> Vec<Made> 
         if let Some(word) = at_ceiling(code, random) {
             add(Decode, &word, code.n, Some(AT_CEILING));
         }
-        let packed = packing::packed_bytes(body).unwrap_or(1);
-        add(Pack, &message, packed, None);
-        add(Unpack, &random.bytes(packed, 256), code.n, None);
     }
+    (0..3).for_each(|_| cases.extend(packed::cases_of(body, code, random)));
     cases.extend(faulty_code_cases(body, code, random));
     cases.extend(numbers::cases_of(body, code, random));
     cases

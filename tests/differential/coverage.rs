@@ -88,7 +88,7 @@ pub fn list(operation: Operation, planes: usize) -> Vec<String> {
         MakeLabels => numbers(&[2, 14]),
         ToLevels | ToStates => numbers(&[2, 13, 8, 10]),
         Pack => code(&[14, 8, 9]),
-        Unpack => code(&[14, 8]),
+        Unpack => code(&[14, 8, 19]),
         MessageOfNumber => code(&[8, 17, 18]),
         NumberOfMessage => code(&[8, 17, 9]),
         CheckImage => numbers(&[15, 16]),

@@ -1,15 +1,16 @@
 //! Small codes and stacks, every word: what is decoded is decided by distance to every codeword. Small codes, every number: each has a
-//! message of its own.
+//! message of its own. Small codes, every string of bytes: it is that of a message or refused.
 
 use crate::case::{Case, Operation};
 use crate::generate::{bases, body_of};
+use crate::packed::{byte_count, bytes_of, every_shape};
 use crate::random::Random;
 use crate::second::code::{self, Code};
 use crate::second::distance::{all_words, code_reaches, stack_reaches, words_below};
 use crate::second::stack::{self, Stack};
-use crate::second::{cells_that_differ, numbers, Decoded, Refused};
+use crate::second::{cells_that_differ, numbers, packing, Decoded, Refused};
 use crate::tester::{fail, Tester};
-use std::collections::HashSet;
+use std::collections::{HashMap, HashSet};
 
 /// Every set of parameters with at most so many words, once.
 const WORDS_OF_EVERY_CODE: usize = 130;
@@ -18,6 +19,9 @@ const LARGER: usize = 60;
 const WORDS_OF_LARGER: usize = 2500;
 /// n, r, q, M of larger codes whose numbers are tried, with two radices above 1: six-level cells for transponder codes, R, others.
 const NUMBERED: [[usize; 4]; 4] = [[6, 2, 6, 3], [5, 4, 8, 2], [5, 2, 5, 2], [3, 1, 12, 5]];
+/// n, r, q, M of codes whose messages have 9, 10, .. 16 bits, so that the second byte has from seven leftover bits to none.
+const TWO_BYTES: [[usize; 4]; 8] =
+    [[3, 1, 16, 7], [5, 0, 4, 4], [5, 4, 8, 2], [6, 3, 8, 3], [3, 1, 32, 4], [8, 2, 4, 2], [18, 3, 2, 2], [4, 2, 64, 16]];
 /// Stacks at random, so many, with at most so many words.
 const STACKS: usize = 400;
 const WORDS_OF_STACKS: usize = 600;
@@ -33,6 +37,7 @@ pub fn run(tester: &mut Tester, random: &mut Random) {
     }
     println!("every word of {} codes, {accepted} of them accepted", small.len() + chosen.len());
     every_number(tester, random);
+    every_string_of_bytes(tester, random);
     let accepted = (0..STACKS).filter(|_| every_word_of_stack(tester, random)).count();
     println!("every word of {STACKS} stacks, {accepted} of them accepted");
 }
@@ -92,8 +97,7 @@ fn every_number(tester: &mut Tester, random: &mut Random) {
 fn every_number_of_code(fields: [usize; 6], tester: &mut Tester, random: &mut Random) -> usize {
     let (n, body) = (fields[0], body_of(fields, random));
     let code = Code::open(&body).expect("a sound description");
-    let limits: Vec<usize> = (0..n).map(|cell| code.symbol_limit(cell)).collect();
-    let mut messages: HashSet<Vec<u8>> = words_below(&limits).into_iter().collect();
+    let mut messages: HashSet<Vec<u8>> = all_messages(&code).into_iter().collect();
     let count = messages.len();
     let case_of = |value: usize| Case::with(Operation::MessageOfNumber, &body, &[], n).numbered(value);
     for case in (0..count).map(case_of) {
@@ -108,6 +112,55 @@ fn every_number_of_code(fields: [usize; 6], tester: &mut Tester, random: &mut Ra
     }
     tester.run(&case_of(count));
     count
+}
+
+fn all_messages(code: &Code) -> Vec<Vec<u8>> {
+    let limits: Vec<usize> = (0..code.n).map(|cell| code.symbol_limit(cell)).collect();
+    words_below(&limits)
+}
+
+/// Of all codes whose messages have one byte, and of some with two bytes.
+fn every_string_of_bytes(tester: &mut Tester, random: &mut Random) {
+    let mut body = |[n, r, q, modulus]: [usize; 4]| body_of([n, r, q, modulus, 1, 0], random);
+    let mut bodies: Vec<Vec<u8>> = every_shape().into_iter().map(&mut body).filter(|body| packing::packed_bytes(body) == Ok(1)).collect();
+    bodies.extend(TWO_BYTES.map(&mut body));
+    let taken: usize = bodies.iter().map(|body| every_string_of_code(body, tester)).sum();
+    let strings: usize = bodies.iter().map(|body| 256_usize.pow(byte_count(body) as u32)).sum();
+    println!("every string of bytes of {} codes: {taken} of messages, {} refused 19", bodies.len(), strings - taken);
+}
+
+/// All messages, by the bytes that they are packed to.
+fn packed_messages(body: &[u8], code: &Code, tester: &mut Tester) -> HashMap<Vec<u8>, Vec<u8>> {
+    let mut packed = |message: Vec<u8>| {
+        tester.run(&Case::with(Operation::Pack, body, &message, byte_count(body)));
+        (bytes_of(body, &message), message)
+    };
+    let messages: HashMap<Vec<u8>, Vec<u8>> = all_messages(code).into_iter().map(&mut packed).collect();
+    assert!(messages.len() == 1 << packing::bits(code), "bytes of its own for each message");
+    messages
+}
+
+/// Bytes to which a message is packed give that message back, all others are refused 19; and no two that are not refused have messages
+/// with equal rows. Gives how many these are. It is asked of the second implementation, as for numbers.
+fn every_string_of_code(body: &[u8], tester: &mut Tester) -> usize {
+    let code = Code::open(body).expect("a sound description");
+    let messages = packed_messages(body, &code, tester);
+    let mut rows = HashSet::new();
+    for bytes in all_words(byte_count(body), 256) {
+        let case = Case::with(Operation::Unpack, body, &bytes, code.n);
+        tester.run(&case);
+        let taken = packing::unpack(body, &bytes, code.n);
+        if taken != messages.get(&bytes).cloned().ok_or(19) {
+            fail(&case, &format!("taken {taken:?}"));
+        }
+        if let Ok(message) = taken {
+            tester.run(&Case::with(Operation::Encode, body, &message, code.n));
+            if !rows.insert(code.encoded(&message)) {
+                fail(&case, "other bytes have the same row");
+            }
+        }
+    }
+    rows.len()
 }
 
 /// Decode and recover every word of a small stack at random; true when it is accepted.

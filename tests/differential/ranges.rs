@@ -1,6 +1,9 @@
-//! Every value of every field of a description, every number of patterns, and the most cells whose messages have numbers.
+//! Every value of every field of a description, every number of patterns, the most cells whose messages have numbers, and every
+//! leftover bit.
 
 use crate::case::{Case, Operation};
+use crate::order::must_answer;
+use crate::packed::{bytes_of, every_shape, leftover, with_bit};
 use crate::second::code::Code;
 use crate::second::numbers;
 use crate::tester::Tester;
@@ -22,6 +25,7 @@ pub fn run(tester: &mut Tester) {
     }
     every_number_of_patterns(tester);
     every_product_of_radices(tester);
+    every_leftover_bit(tester);
 }
 
 fn set<const FIELDS: usize>(mut fields: [usize; FIELDS], field: usize, value: usize) -> [usize; FIELDS] {
@@ -89,8 +93,12 @@ fn every_product_of_radices(tester: &mut Tester) {
     }
 }
 
+fn opened(body: &[u8]) -> Code {
+    Code::open(body).expect("a sound description")
+}
+
 fn messages(body: &[u8]) -> Option<u64> {
-    numbers::messages(&Code::open(body).expect("a sound description"))
+    numbers::messages(&opened(body))
 }
 
 /// The first number and the last with their messages, and the one behind it. Where there are too many messages, 2^64 - 1 is the last.
@@ -102,4 +110,27 @@ fn first_and_last_numbers(tester: &mut Tester, body: &[u8]) {
         let message = numbers::message_of_number(body, value, n).unwrap_or(vec![0; n]);
         tester.run(&Case::with(Operation::NumberOfMessage, body, &message, 0));
     }
+}
+
+/// Refused 19 for each leftover bit, and not without one: for every number of cells and bits of symbols, with all other bits 0 and with
+/// all of them 1.
+fn every_leftover_bit(tester: &mut Tester) {
+    let bodies: Vec<Vec<u8>> = every_shape().iter().map(|&[n, r, q, modulus]| code_body([n, r, q, modulus, 1, 0])).collect();
+    let counts: Vec<usize> = bodies.iter().map(|body| leftover_bits(tester, body)).collect();
+    let without = counts.iter().filter(|&&count| count == 0).count();
+    println!("every leftover bit of {} codes: {}; {without} of them have none", counts.len(), counts.iter().sum::<usize>());
+}
+
+/// Gives how many there are.
+fn leftover_bits(tester: &mut Tester, body: &[u8]) -> usize {
+    let code = opened(body);
+    let last = (0..code.n).map(|cell| code.symbol_limit(cell) as u8 - 1).collect();
+    for message in [vec![0; code.n], last] {
+        let bytes = bytes_of(body, &message);
+        must_answer(tester, &Case::with(Operation::Unpack, body, &bytes, code.n), "done");
+        for bit in leftover(&code) {
+            must_answer(tester, &Case::with(Operation::Unpack, body, &with_bit(&bytes, bit), code.n), "19");
+        }
+    }
+    leftover(&code).len()
 }

@@ -1,4 +1,4 @@
-//! Packing (document 01: bytes): a code's message as bytes, and back.
+//! Packing (document 01: bytes; document 02, wish 3: leftover bits): a code's message as bytes, and back.
 
 use super::code::Code;
 use super::refuse;
@@ -15,9 +15,14 @@ fn symbol_bits(code: &Code, cell: usize) -> usize {
     code.symbol_limit(cell).ilog2() as usize
 }
 
+/// B, of a code whose symbols are whole numbers of bits.
+pub fn bits(code: &Code) -> usize {
+    (0..code.n).map(|cell| symbol_bits(code, cell)).sum()
+}
+
 /// ceil(B/8).
 fn byte_count(code: &Code) -> usize {
-    (0..code.n).map(|cell| symbol_bits(code, cell)).sum::<usize>().div_ceil(8)
+    bits(code).div_ceil(8)
 }
 
 /// A message to bytes: open; 14; 8; 9.
@@ -30,13 +35,15 @@ pub fn pack(body: &[u8], message: &[u8], out_length: usize) -> Result<Vec<u8>, u
     Ok(bits.chunks(8).map(number_of_bits).collect())
 }
 
-/// A message from bytes: open; 14; 8.
+/// A message from bytes: open; 14; 8; 19. The bits that no symbol took are left over.
 pub fn unpack(body: &[u8], bytes: &[u8], out_length: usize) -> Result<Vec<u8>, usize> {
     let code = open(body)?;
     refuse(8, bytes.len() != byte_count(&code) || out_length != code.n)?;
     let mut bits = bytes.iter().flat_map(|byte| (0..8).map(move |bit| byte >> bit & 1));
     let mut symbol = |cell: usize| number_of_bits(&bits.by_ref().take(symbol_bits(&code, cell)).collect::<Vec<u8>>());
-    Ok((0..code.n).map(&mut symbol).collect())
+    let message = (0..code.n).map(&mut symbol).collect();
+    refuse(19, bits.any(|bit| bit == 1))?;
+    Ok(message)
 }
 
 /// Lowest bit first.

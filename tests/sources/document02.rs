@@ -1,8 +1,10 @@
-//! Document 02: patterns tried for document 01's examples b, c, d and f (wish 1), and numbers of messages (wish 2).
+//! Document 02: patterns tried for document 01's examples b, c, d and f (wish 1), numbers of messages (wish 2), and leftover bits
+//! (wish 3).
 
 use crate::case::{Case, Operation};
 use crate::document01::{F, R};
 use crate::paper::Source;
+use std::collections::HashSet;
 
 /// Six-level cells that mend one rise of 1. It has 6^4 times 2^2 messages, more than there are transponder codes.
 const T: [u8; 14] = [6, 2, 6, 3, 1, 1, 1, 1, 2, 2, 1, 2, 1, 2];
@@ -10,7 +12,7 @@ const T: [u8; 14] = [6, 2, 6, 3, 1, 1, 1, 1, 2, 2, 1, 2, 1, 2];
 const TRANSPONDER_CODES: u64 = 0o10000;
 
 pub fn run() -> usize {
-    patterns_tried() + transponder() + product_of_radices()
+    patterns_tried() + transponder() + product_of_radices() + leftover_bits() + equal_rows()
 }
 
 fn patterns_tried() -> usize {
@@ -71,4 +73,39 @@ fn last_number(source: &mut Source, body: &[u8], last: u64) {
     source.numbers(body, last);
     let next = Case::with(Operation::MessageOfNumber, body, &[], body[0].into()).numbered(last as usize + 1);
     source.answers(&next, 18);
+}
+
+/// R's messages have 11 bits: the five highest bits of the second byte are left over.
+fn leftover_bits() -> usize {
+    use Operation::*;
+    let mut source = Source::new("document 02, leftover bits (each that is set, and after 14 and 8)");
+    source.gives(&Case::with(Pack, &R, &[3, 2, 1, 0, 0], 2), &[51, 0]);
+    source.gives(&Case::with(Unpack, &R, &[51, 0], 5), &[3, 2, 1, 0, 0]);
+    // The highest bit of the last symbol is not left over.
+    source.gives(&Case::with(Unpack, &R, &[51, 4], 5), &[3, 2, 1, 0, 2]);
+    (1..32).for_each(|rubbish| source.refuses_bytes(&R, &[51, rubbish << 3], 5, 19));
+    // The lengths come before, and 14 too: six levels have no bits.
+    source.refuses_bytes(&R, &[51, 8], 4, 8);
+    source.refuses_bytes(&R, &[51, 8, 0], 5, 8);
+    source.refuses_bytes(&R, &[51, 0, 8], 5, 8);
+    source.refuses_bytes(&R, &[255], 5, 8);
+    source.refuses_bytes(&T, &[255; 2], 6, 14);
+    // Whole bytes have no leftover bits; a single bit has seven.
+    source.gives(&Case::with(Unpack, &[8, 0, 2, 2, 1, 0], &[255], 8), &[1; 8]);
+    source.gives(&Case::with(Unpack, &[64, 0, 64, 2, 1, 0], &[255; 48], 64), &[63; 64]);
+    (2..=255).for_each(|byte| source.refuses_bytes(&[1, 0, 2, 2, 1, 0], &[byte], 1, 19));
+    source.done()
+}
+
+/// "So that equal rows mean equal bytes": of all pairs of bytes, R takes a message from 2^11, and no two of these have equal rows.
+fn equal_rows() -> usize {
+    let mut source = Source::new("document 02, leftover bits (equal rows mean equal bytes)");
+    let mut rows = HashSet::new();
+    for pair in 0..=u16::MAX {
+        if let Some(row) = source.row_of_bytes(&R, &pair.to_le_bytes()) {
+            source.holds(&format!("{row:?} is the row of other bytes too"), rows.insert(row));
+        }
+    }
+    source.holds("2^11 pairs of bytes are messages of R", rows.len() == 1 << 11);
+    source.done()
 }

@@ -102,6 +102,23 @@ impl Source {
         codeword
     }
 
+    /// No message is taken from the bytes.
+    pub fn refuses_bytes(&mut self, body: &[u8], bytes: &[u8], out_length: usize, number: usize) {
+        self.answers(&Case::with(Operation::Unpack, body, bytes, out_length), number);
+    }
+
+    /// The row to which the bytes' message is encoded. None when the bytes are refused 19.
+    pub fn row_of_bytes(&mut self, body: &[u8], bytes: &[u8]) -> Option<Vec<u8>> {
+        let n = usize::from(body[0]);
+        let (answer, message) = self.call(&Case::with(Operation::Unpack, body, bytes, n));
+        if answer.number == 19 {
+            return None;
+        }
+        self.holds(&format!("{body:?} takes a message from {bytes:?}, not {answer:?}"), answer.number == 0);
+        let (_, row) = self.call(&Case::with(Operation::Encode, body, &message, n));
+        Some(row)
+    }
+
     /// Messages of 0 and of 1 in every data cell are encoded; every rise up to l of every cell of these codewords is
     /// decoded.
     pub fn mends_every_single_rise(&mut self, body: &[u8]) {

@@ -1,7 +1,9 @@
-//! Faults of the operations on codes and on their packed messages, in document 01's order.
+//! Faults of the operations on codes and on their packed messages, in the order of documents 01 and 02.
 
 use super::{fault, run_faults, wrong_length, Fault};
 use crate::case::{Case, Operation};
+use crate::codes;
+use crate::packed::{bytes_of, leftover, with_bit};
 use crate::random::Random;
 use crate::second::code::Code;
 use crate::second::packing;
@@ -42,17 +44,31 @@ fn sound_body(random: &mut Random) -> Vec<u8> {
     body
 }
 
+/// A sound code with leftover bits, so that one can be set.
+fn sound_body_with_leftover(random: &mut Random) -> Vec<u8> {
+    loop {
+        let body = sound_body(random);
+        if !leftover(&opened(&body)).is_empty() {
+            return body;
+        }
+    }
+}
+
+fn opened(body: &[u8]) -> Code {
+    Code::open(body).expect("a sound description")
+}
+
 fn sound_case(operation: Operation, random: &mut Random) -> Case {
     use Operation::*;
-    let body = sound_body(random);
-    let code = Code::open(&body).expect("a sound description");
+    let body = if operation == Unpack { sound_body_with_leftover(random) } else { sound_body(random) };
+    let code = opened(&body);
     let message = [random.bytes(code.data(), SMALL_SYMBOL), vec![0; code.r]].concat();
     let packed = packing::packed_bytes(&body).expect("powers of two");
     match operation {
         Encode => Case::with(operation, &body, &message, code.n),
         Decode | Recover => Case::with(operation, &body, &code.encoded(&message), code.n),
         Pack => Case::with(operation, &body, &message, packed),
-        Unpack => Case::with(operation, &body, &random.bytes(packed, 256), code.n),
+        Unpack => Case::with(operation, &body, &bytes_of(&body, &codes::message(&code, random)), code.n),
         _ => Case::of(operation, &body),
     }
 }
@@ -93,7 +109,7 @@ fn behind_opening(operation: Operation) -> Vec<Fault<'static>> {
         Decode => vec![buffer(), level(), fault(11, raise_last_check_cell)],
         Recover => vec![buffer(), level(), fault(12, raise_last_check_cell)],
         Pack => vec![bits(), buffer(), symbol()],
-        Unpack => vec![bits(), buffer()],
+        Unpack => vec![bits(), buffer(), fault(19, set_leftover_bit)],
         PackedBytes => vec![bits()],
         _ => vec![],
     }
@@ -101,9 +117,14 @@ fn behind_opening(operation: Operation) -> Vec<Fault<'static>> {
 
 /// A symbol too large in a data cell or, if it is a check cell's, for that cell.
 fn large_symbol(case: &mut Case, random: &mut Random) {
-    let code = Code::open(&case.first).expect("a sound description");
+    let code = opened(&case.first);
     let cell = random.below(code.n);
     case.second[cell] = random.byte_from(code.symbol_limit(cell));
+}
+
+fn set_leftover_bit(case: &mut Case, random: &mut Random) {
+    let bits: Vec<usize> = leftover(&opened(&case.first)).collect();
+    case.second = with_bit(&case.second, random.pick(&bits));
 }
 
 /// The check cells of the sound codeword lie below M, so that there is room.

@@ -45,7 +45,7 @@ pub fn run_faults(tester: &mut Tester, random: &mut Random, sound: &Case, faults
 }
 
 /// The fault must be there: the second implementation (and so the library) answers its label.
-fn must_answer(tester: &mut Tester, case: &Case, label: &str) {
+pub fn must_answer(tester: &mut Tester, case: &Case, label: &str) {
     let answered = tester.run(case);
     if answered != label {
         fail(case, &format!("made to answer {label}, answers {answered}"));
