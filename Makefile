@@ -44,7 +44,7 @@ evidence: $(LIBRARY) target/bin/cartlist
 	build/sources
 	build/differential target/bin/cartlist
 
-# make languages runs document 01's examples and the transponder number from C, and prints the rows of the sample images from C, Rust and Pascal.
+# make languages runs document 01's examples and document 02's from C, and prints the rows of the sample images from C, Rust and Pascal.
 .PHONY: languages
 languages: $(LIBRARY)
 	gcc -std=c99 -Wall -Wextra -Werror -o build/examples bindings/c/examples.c -Ltarget/staticlib -lfingerkerf
