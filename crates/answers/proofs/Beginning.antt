@@ -1,5 +1,5 @@
--- What encoding, decoding and recovery begin with: the refusals of the description, then 8 for the input x and the output buffer.
--- Over the answer of opening, and over the lengths that the opened code or stack asks for.
+-- What encoding, decoding and recovery begin with, in the answers' terms: the refusals of the description, then 8 for the input x and the
+-- output buffer.
 use mathlib.Core.Path.{_≡_, refl, sym, subst, _∙_}
 use mathlib.Core.Bool.{Bool, true, false, _&&_, not}
 use mathlib.Core.List.{List}
@@ -10,6 +10,7 @@ use lib.ListN.{length}
 use borrow.Author.Tests.{not-true, not-false}
 use Rattle.definitions.specs.Answers.{Answer, given, refused, Result, refuse_when_else_, result, after}
 use Rattle.definitions.proofs.Tests.{and-left, and-right}
+use Rattle.definitions.proofs.Beginning.{operation}
 use Rattle.answers.specs.Answering.{refusalNumber, refusalPlane, withPlane, refusedAs, leaves}
 use Rattle.answers.specs.declared.Refusal.{Refusal}
 
@@ -40,15 +41,10 @@ result-refused {A} a y out e = rw e (step (refusalNumber y) (refusalPlane y))
     step k (some j) = refl
 
 module _ {A O : Type 0} (opening : Answer O) (x out : List ℕ) (read written : O → ℕ) (rest : O → Answer (A × List ℕ)) where
-  abbrev pub operation : Result A
-  operation =
-      result
-      (after opening λ o.
-      refuse 8 when not (eqb (length x) (read o) && eqb (length out) (written o)) else
-      rest o)
-      out
+  abbrev whole : Result A
+  whole = operation opening x out read written rest
 
-  pub not-open : (y : Refusal) → opening ≡ refusedAs y → leaves (refusedAs y) out ≡ operation
+  pub not-open : (y : Refusal) → opening ≡ refusedAs y → leaves (refusedAs y) out ≡ whole
   not-open y e = result-refused _ y out (after-refused opening y _ e)
 
   -- t is the answer of the test of both buffers
@@ -61,9 +57,9 @@ module _ {A O : Type 0} (opening : Answer O) (x out : List ℕ) (read written : 
       (t : Bool)
       (tested : t ≡ (eqb (length x) i && eqb (length out) j))
     where
-      pub wrong-buffer : not t ≡ true → leaves (refused 8) out ≡ operation
+      pub wrong-buffer : not t ≡ true → leaves (refused 8) out ≡ whole
       wrong-buffer h = rw (opens, ← i-is, ← j-is, ← tested, not-true t h)
 
       -- what is left once both fit
-      pub both-fit : not t ≡ false → result (rest o) out ≡ operation
+      pub both-fit : not t ≡ false → result (rest o) out ≡ whole
       both-fit h = rw (opens, ← i-is, ← j-is, ← tested, not-false t h)

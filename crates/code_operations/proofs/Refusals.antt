@@ -15,7 +15,8 @@ use Rattle.definitions.specs.Messages.{symbolsFit, encode, message}
 use Rattle.definitions.specs.CodeOperations.{openCode, testCode}
 use Rattle.answers.specs.Answering.{refusedAs, leaves}
 use Rattle.answers.specs.declared.Refusal.{Refusal}
-use Rattle.answers.proofs.Beginning.{after-refused, operation, not-open, wrong-buffer, both-fit}
+use Rattle.definitions.proofs.Beginning.{operation}
+use Rattle.answers.proofs.Beginning.{after-refused, not-open, wrong-buffer, both-fit}
 use Rattle.opening.specs.Opening.{codeWith, part, openedAs, Place, Placed}
 use Rattle.opening.specs.declared.Parameters.{Parameters}
 use Rattle.opening.specs.declared.Opened.{Opened}

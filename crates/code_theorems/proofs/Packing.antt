@@ -229,7 +229,7 @@ module _ (b : List ℕ) (p : Code) (opens : openPackable b ≡ given p) where
   packed-message : (s lent x : List ℕ) → packCode b s lent ≡ gives x → Message p s × (pack p s ≡ x)
   unfolding packCode
   packed-message s lent x e =
-      let (o, opened, long, lo, g) = given-fits (openPackable b) (λ o. o .n) byteCount _ s lent tt (ap (λ u. u .answer) e) in
+      let (o, opened, long, lo, g) = given-fits (openPackable b) s lent (λ o. o .n) byteCount _ tt (ap (λ u. u .answer) e) in
       let (h, _) = passed 9 (symbolsFit o s) _ _ g in
       let same : o ≡ p = cc in
       let m = fits p s (long ∙ ap (λ (c : Code). c .n) same) (is-true (symbolsFit p s) (subst (λ (c : Code). T (symbolsFit c s)) same h)) in
@@ -243,7 +243,7 @@ module _ (b : List ℕ) (p : Code) (opens : openPackable b ≡ given p) where
   unpacked-bytes : (x lent s : List ℕ) → Bytes x → unpackCode b x lent ≡ gives s → MessageBytes p x × (unpack p x ≡ s)
   unfolding unpackCode
   unpacked-bytes x lent s small e =
-      let (o, opened, long, lo, g) = given-fits (openPackable b) byteCount (λ o. o .n) _ x lent tt (ap (λ u. u .answer) e) in
+      let (o, opened, long, lo, g) = given-fits (openPackable b) x lent byteCount (λ o. o .n) _ tt (ap (λ u. u .answer) e) in
       let (h, _) = not-refused 19 (leftoverSet o x) _ _ g in
       let same : o ≡ p = cc in
       let m : MessageBytes p x = record {
@@ -270,7 +270,7 @@ module _ (b : List ℕ) (p : Code) (opens : openPackable b ≡ given p) where
   row-of : (s c cells : List ℕ) → Message p s → encodeCode b s cells ≡ gives c → c ≡ encode p s
   unfolding encodeCode
   row-of s c cells m e =
-      let (o, opened, _, lo, _) = given-fits (openCode b) (λ o. o .n) (λ o. o .n) _ s cells tt (ap (λ u. u .answer) e) in
+      let (o, opened, _, lo, _) = given-fits (openCode b) s cells (λ o. o .n) (λ o. o .n) _ tt (ap (λ u. u .answer) e) in
       let code = opens-powers .0 in
       let same : o ≡ p = cc in
       sym (ap (λ u. u .out) e) ∙ ap (λ u. u .out) (encodes b p code s cells m (lo ∙ ap (λ (c : Code). c .n) same))

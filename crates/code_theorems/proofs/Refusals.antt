@@ -9,6 +9,7 @@ use lib.ListN.{length}
 use Rattle.definitions.specs.Words.{allBelow, EachCell}
 use Rattle.definitions.specs.Answers.{Answer, given, refused, refusedAt, Result, refuse_when_else_, result, after}
 use Rattle.definitions.proofs.Tests.{and-left, and-right, below-each}
+use Rattle.definitions.proofs.Beginning.{operation}
 use Rattle.code_theorems.proofs.Deciding.{result-given}
 
 module _ {A : Type 0} where
@@ -32,18 +33,13 @@ after-given (refused k) f y e = let z : _≡_ {A = ℕ} 0 1 = cc in absurd (omeg
 after-given (refusedAt k j) f y e = let z : _≡_ {A = ℕ} 0 1 = cc in absurd (omega arith)
 
 -- where an operation gives something, the description opened, the input x and the output buffer fitted, and what was left gave it
-module _ {A O : Type 0} (opening : Answer O) (read written : O → ℕ) (left : O → Answer (A × List ℕ)) (x out : List ℕ) where
-  abbrev operation : Result A
-  operation =
-      result
-      (after opening λ o.
-      refuse 8 when not (eqb (length x) (read o) && eqb (length out) (written o)) else
-      left o)
-      out
+module _ {A O : Type 0} (opening : Answer O) (x out : List ℕ) (read written : O → ℕ) (left : O → Answer (A × List ℕ)) where
+  abbrev whole : Result A
+  whole = operation opening x out read written left
 
   pub given-fits :
-      (k : A) → operation .answer ≡ given k
-      → (o : O) × (opening ≡ given o) × (length x ≡ read o) × (length out ≡ written o) × (left o ≡ given (k, operation .out))
+      (k : A) → whole .answer ≡ given k
+      → (o : O) × (opening ≡ given o) × (length x ≡ read o) × (length out ≡ written o) × (left o ≡ given (k, whole .out))
   given-fits k e =
       let g = result-given _ out k e in
       let (o, opens, e₁) = after-given opening _ _ g in
@@ -61,9 +57,9 @@ module _ {O : Type 0} (opening : Answer O) (n q : O → ℕ) (decoding : O → A
   rest o = refuse 10 when not (allBelow (q o) y) else decoding o
 
   pub given-read :
-      (k : ℕ) → operation opening n n rest y out .answer ≡ given k
+      (k : ℕ) → operation opening y out n n rest .answer ≡ given k
       → (o : O) × (opening ≡ given o) × (length y ≡ n o) × (length out ≡ n o) × EachCell (λ v. v < q o) y
   given-read k e =
-      let (o, opens, ly, lo, e₁) = given-fits opening n n rest y out k e in
+      let (o, opens, ly, lo, e₁) = given-fits opening y out n n rest k e in
       let (h, _) = passed 10 (allBelow (q o) y) _ _ e₁ in
       (o, opens, ly, lo, below-each (q o) y h)

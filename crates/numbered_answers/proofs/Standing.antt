@@ -11,7 +11,8 @@ use Rattle.definitions.specs.PackingOperations.{Packed, Unpacked}
 use Rattle.definitions.specs.MessageNumberOperations.{MessageMade, NumberMade}
 use Rattle.definitions.specs.Demands.{Coding, Tested, OneCodeword, Recovered, DistanceDecides, SomeCodeword}
 use Rattle.definitions.specs.Demands.{GivenWithinReach, KeepsMessages}
-use Rattle.answers.specs.Answering.{refusalNumber, refusalPlane, withPlane, testedAs, writtenAs, readAs, triedAs, outcomeAs, leaves}
+use Rattle.answers.specs.Answering.{refusalNumber, refusalPlane, withPlane, refusedAs, testedAs, writtenAs, readAs, triedAs, outcomeAs, leaves}
+use Rattle.answers.specs.declared.Refusal.{Refusal}
 use Rattle.answers.specs.declared.TestAnswer.{TestAnswer}
 use Rattle.answers.specs.declared.TestAnswer.the-variants as test
 use Rattle.answers.specs.declared.WriteAnswer.{WriteAnswer}
@@ -42,28 +43,27 @@ alike-refused k (some j) = record {
   same = refl;
 }
 
--- a refusal's number is not 0, so it stands for a refusal
-alike-count : (k : ℕ) (j : Option ℕ) → 1 ≤ k → Alike (withPlane k j) (countBy (numberOf (withPlane {A = ℕ} k j)) (countOf (withPlane k j)))
-alike-count zero j h = absurd (omega arith)
-alike-count (suc k) none h = alike-refused (suc k) none
-alike-count (suc k) (some j) h = alike-refused (suc k) (some j)
-
-alike-answer : (k : ℕ) (j : Option ℕ) → 1 ≤ k → Alike (withPlane k j) (answerBy (numberOf (withPlane {A = Unit {0}} k j)))
-alike-answer zero j h = absurd (omega arith)
-alike-answer (suc k) none h = alike-refused (suc k) none
-alike-answer (suc k) (some j) h = alike-refused (suc k) (some j)
+-- a refusal's number is not 0, and f takes it for a refusal by that number
+alike-number : {A : Type 0} (f : ℕ → Answer A) → ((k : ℕ) → f (suc k) ≡ refused (suc k)) → (x : Refusal)
+    → Alike (refusedAs x) (f (numberOf (refusedAs {A = A} x)))
+alike-number {A} f e x = step (refusalNumber x) (refusalPlane x) (positive x)
+  where
+    step : (k : ℕ) (j : Option ℕ) → 1 ≤ k → Alike (withPlane k j) (f (numberOf (withPlane {A = A} k j)))
+    step zero j h = absurd (omega arith)
+    step (suc k) none h = rw (e k) (alike-refused (suc k) none)
+    step (suc k) (some j) h = rw (e k) (alike-refused (suc k) (some j))
 
 pub read-alike : (a : ReadAnswer) → Alike (readAs a) (countBy (numberOf (readAs a)) (countOf (readAs a)))
 read-alike (read.Count count tried) = alike-refl (given count)
-read-alike (read.Refused x) = alike-count (refusalNumber x) (refusalPlane x) (positive x)
+read-alike (read.Refused x) = alike-number (λ k. countBy k (countOf (refusedAs x))) (λ k. refl) x
 
 pub outcome-alike : (a : Outcome) → Alike (outcomeAs a) (countBy (numberOf (outcomeAs a)) (countOf (outcomeAs a)))
 outcome-alike (outcome.Count k) = alike-refl (given k)
-outcome-alike (outcome.Refused x) = alike-count (refusalNumber x) (refusalPlane x) (positive x)
+outcome-alike (outcome.Refused x) = alike-number (λ k. countBy k (countOf (refusedAs x))) (λ k. refl) x
 
 write-alike : (a : WriteAnswer) → Alike (writtenAs a) (answerBy (numberOf (writtenAs a)))
 write-alike write.Written = alike-refl (given tt)
-write-alike (write.Refused x) = alike-answer (refusalNumber x) (refusalPlane x) (positive x)
+write-alike (write.Refused x) = alike-number answerBy (λ k. refl) x
 
 module _ {A : Type 0} {a b : Answer A} (h : Alike a b) {P : Type 0} where
   given-alike : ((k : A) × (a ≡ given k)) ↔ P → ((k : A) × (b ≡ given k)) ↔ P
