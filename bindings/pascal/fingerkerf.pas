@@ -54,6 +54,7 @@ function levels_to_levels(table: PByte; tableLen: SizeUInt; states: PByte; state
 function levels_to_states(table: PByte; tableLen: SizeUInt; levels: PByte; levelsLen: SizeUInt;
   states: PByte; statesLen: SizeUInt): SizeUInt; cdecl; external;
 
+{ Unpacking refuses 19 when a bit of the last byte past the last symbol is set; packing leaves these bits 0. }
 function levels_pack(body: PByte; bodyLen: SizeUInt; message: PByte; messageLen: SizeUInt;
   bytes: PByte; bytesLen: SizeUInt): SizeUInt; cdecl; external;
 function levels_unpack(body: PByte; bodyLen: SizeUInt; bytes: PByte; bytesLen: SizeUInt;

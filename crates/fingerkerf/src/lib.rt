@@ -168,7 +168,7 @@ pub extern "C" fn levels_pack(body: &[u8], message: &[u8], bytes: &mut [u8]) -> 
     numbered_answers::of_write(packing::pack(body, message, bytes))
 }
 
-// A plan's message from bytes.
+// A plan's message from bytes, whose leftover bits must be 0.
 #[no_mangle]
 pub extern "C" fn levels_unpack(body: &[u8], bytes: &[u8], message: &mut [u8]) -> usize
     ensures number { λ r. ⌜ r ≡ numberOf (unpackCode (now (body .entry)) (now (bytes .entry)) (now (message .entry)) .answer) ⌝ }
