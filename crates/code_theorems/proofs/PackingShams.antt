@@ -2,11 +2,11 @@
 -- 51 0, and eight cells of two levels, whose eight bits are one byte.
 use mathlib.Core.Path.{_≡_, refl, sym, ap, _∙_}
 use mathlib.Core.List.{List, [], _∷_}
-use mathlib.Core.Option.{Option·none-ne-some}
+use mathlib.Core.Option.{some}
 use Prim.Native.Nat.{ℕ}
 use native.Mathlib.Omega.{arith}
 use lib.ListN.{length}
-use Rattle.definitions.specs.Answers.{Answer, given, refused, Result, gives}
+use Rattle.definitions.specs.Answers.{Answer, given, refused, Result, gives, number}
 use Rattle.definitions.specs.Codes.{Code, codeOf}
 use Rattle.definitions.specs.Patterns.{patternCount}
 use Rattle.definitions.specs.CodeOperations.{inRange, openCode, encodeCode}
@@ -45,9 +45,10 @@ unfolding log2 bitCount
 whole-byte-refused x out k h = let e = h .whole refl in let z : _≡_ {A = ℕ} 0 1 = cc in omega arith
 
 module _ (b : List ℕ) (p : Code) where
-  -- a leftover bit not looked at: document 01's rule, by which leftover bits are ignored
-  pub leftover-ignored : (x out : List ℕ) (k : ℕ) → Leftover p k → bitOf x k ≡ 1 → Unpacked b p x (given tt) out → ⊥
-  leftover-ignored x out k over set h = Option·none-ne-some 19 (h .leftover .0 (k, over, set))
+  -- a leftover bit set, and another answer than 19: one that gives, as document 01 had it, or another number
+  pub leftover-ignored : (x out : List ℕ) (a : Answer (Unit {0})) (k : ℕ) → Leftover p k → bitOf x k ≡ 1 → (number a ≡ some 19 → ⊥)
+      → Unpacked b p x a out → ⊥
+  leftover-ignored x out a k over set other h = other (h .leftover .0 (k, over, set))
 
   -- 19 although the leftover bits are 0
   pub clear-refused : (x out : List ℕ) → ((k : ℕ) → Leftover p k → bitOf x k ≡ 0) → Unpacked b p x (refused 19) out → ⊥
