@@ -3,7 +3,6 @@ use mathlib.Core.Bool.{Bool, true, false}
 use mathlib.Core.List.{List}
 use Prim.Native.Nat.{ℕ, _+_, _/_}
 use native.Mathlib.Omega.{arith}
-use lib.Dec.{T}
 use lib.ListN.{length, take}
 use denote.Ref.{now}
 use mir.Syntax.{w8}
@@ -18,7 +17,7 @@ use Rattle.answers.specs.Answering.{leaves}
 use Rattle.answers.proofs.Beginning.{lengths, not-open, wrong-buffer, both-fit}
 use Rattle.opening.specs.Opening.{codeWith, part}
 use Rattle.opening.specs.declared.Parameters.{Parameters}
-use Rattle.bit_reader.specs.Taking.{widthIn, Narrow, Taken}
+use Rattle.bit_reader.specs.Taking.{widthIn, Taken}
 use Rattle.bit_reader.specs.declared.Layout.{Layout}
 use Rattle.packing.specs.Packing.{layoutOf, LaidOut}
 use Rattle.packing.proofs.Operations.{OpensPackable, opens-as, opening-refused, sized, count-is, widths, unpackRest, unpack-clauses, unpacks}
@@ -134,14 +133,14 @@ returns-2 c =
 leftover-set-requires : tie.Need-leftover-set-requires
 leftover-set-requires c κs = let l = c .before .before .before in (l .layout .ensures .1, rw (laid l) (omega arith))
 
--- what leftover_set told is told of the code
+-- what leftover_set told, of the code
 told : (c : tie.After-leftover-set) → c .leftover-set .result ≡ leftoverSet (code (at-told (c .before))) (input (start (at-told (c .before))))
 told c =
     let k = at-told (c .before) in
     c .leftover-set .ensures (code k)
     (subst (LaidOut (code k)) (sym (laid (c .before .before .before .before))) (refl, widths (parameters k) (matrix k)))
 
--- what is left of the operation with t for that test, which is t
+-- what is left of the operation, with t in the place of that test; where the test told t, it is the operation
 abbrev after-19 : tie.After-known-told → Bool → Result (Unit {0})
 after-19 k t = let s = start k in result (refuse 19 when t else given (tt, unpack (code k) (input s))) (lent s)
 
