@@ -23,14 +23,11 @@ use Rattle.definitions.specs.PackingOperations.{openPackable, packCode, unpackC
 use Rattle.definitions.proofs.Tests.{and-left, and-right}
 use Rattle.word_laws.proofs.Cells.{each-at, at-each, at-upFrom, length-upFrom, upFrom-bounds, upFrom-mem, zero-map, map-zero, some-map}
 use Rattle.word_laws.proofs.PowersOfTwo.{power-is}
-use Rattle.word_laws.proofs.Bits.{Bits, bit-small, bits-below}
-use Rattle.word_laws.proofs.BitLists.{bytes-long, bytes-same, bytes-small, bytes-back, bit-of-bytes, bits-small, bits-back, symbol-back}
+use Rattle.word_laws.proofs.Bits.{Bits, bits-below}
+use Rattle.word_laws.proofs.BitLists.{bytes-long, bytes-same, bytes-small, bytes-back, bitOf-small, bit-of-bytes, bits-small, bits-back, symbol-back}
 use Rattle.code_theorems.proofs.Messages.{symbols-pass, fits}
 use Rattle.code_theorems.proofs.Refusals.{is-true, not-refused, passed, after-given, given-fits}
 use Rattle.code_theorems.proofs.Demands.{one-to-one, encodes}
-
-bitOf-small : (bytes : List ℕ) → Bits (bitOf bytes)
-bitOf-small bytes k = bit-small (at bytes (k / 8)) (k % 8)
 
 module _ (p : Code) where
   -- the bytes have room for all bits

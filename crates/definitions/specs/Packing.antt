@@ -63,7 +63,7 @@ unpack p bytes = map (λ i. symbolAt bytes (sumTo i (width p)) (width p i)) (upF
 abbrev pub leftoverBits : Code → List ℕ → List ℕ
 leftoverBits p bytes = map (bitOf bytes) (upFrom (bitCount p) (8 * byteCount p - bitCount p))
 
--- bit k is one of them
+-- bit k is one of them: no symbol has it, and the last byte does
 abbrev pub Leftover : Code → ℕ → Type 0
 Leftover p k = (bitCount p ≤ k) × (k < 8 * byteCount p)
 

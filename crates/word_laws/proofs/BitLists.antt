@@ -46,6 +46,9 @@ bit-of-bytes m f small k h =
     ap (λ (x : ℕ). bit x (k % 8)) (bytes-at m f (k / 8) g)
     ∙ bit-from (λ i. f (8 * (k / 8) + i)) (λ i. small (8 * (k / 8) + i)) 8 (k % 8) (mod-lt k (omega arith)) ∙ ap f (placed k)
 
+pub bitOf-small : (bytes : List ℕ) → Bits (bitOf bytes)
+bitOf-small bytes k = bit-small (at bytes (k / 8)) (k % 8)
+
 -- bit i of byte j
 pub bit-in-byte : (bytes : List ℕ) (j i : ℕ) → i < 8 → bitOf bytes (8 * j + i) ≡ bit (at bytes j) i
 bit-in-byte bytes j i h = rw (mul-comm 8 j, digits-div j h, digits-mod j h)
@@ -77,7 +80,7 @@ symbol-zero bytes k w = step (allZero (map (bitOf bytes) (upFrom k w))) refl
         let place : k + (j - k) ≡ j = omega arith in
         sym (ne-eqb (symbolAt bytes k w) 0 (λ z. other
         (ap (bitOf bytes) (sym place)
-        ∙ sym (bit-from (λ i. bitOf bytes (k + i)) (λ i. bit-small (at bytes ((k + i) / 8)) ((k + i) % 8)) w (j - k) (omega arith))
+        ∙ sym (bit-from (λ i. bitOf bytes (k + i)) (λ i. bitOf-small bytes (k + i)) w (j - k) (omega arith))
         ∙ ap (λ (x : ℕ). bit x (j - k)) z ∙ bit-above 0 0 (j - k) (omega arith) (omega arith))))
 
 -- two bytes that stand together
@@ -104,7 +107,7 @@ module _ (bytes : List ℕ) (j : ℕ) (lo : at bytes j ≤ 255) (hi : at bytes (
       sym (bits-of (both / 2 ^ a) w)
       ∙ bits-same w (bit (both / 2 ^ a)) (λ i. bitOf bytes (8 * j + a + i)) (λ i g.
       bit-shifted both a i ∙ ap (λ (x : ℕ). bit x (a + i)) sixteen
-      ∙ bit-from from-here (λ k. bit-small (at bytes ((8 * j + k) / 8)) ((8 * j + k) % 8)) 16 (a + i) (omega arith)
+      ∙ bit-from from-here (λ k. bitOf-small bytes (8 * j + k)) 16 (a + i) (omega arith)
       ∙ ap (bitOf bytes) (sym (add-assoc (8 * j) a i)))
 
 module _ (w : ℕ → ℕ) where
