@@ -59,12 +59,14 @@ module _ (p : Code) (y : List ℕ) (long : length y ≡ p.n) where
   pub fits-above : (e : List ℕ) → T (fits p y e) → EachPair (λ a b. b ≤ a) y e
   unfolding fits
   fits-above e h =
-      above-each e y (and_right (same_syndrome p y e) (nowhere_above e y) (and_left (same_syndrome p y e && nowhere_above e y) (is_codeword p (subtract y e)) h))
+      above-each e y (and_right (same_syndrome p y e) (nowhere_above e y)
+      (and_left (same_syndrome p y e && nowhere_above e y) (is_codeword p (subtract y e)) h))
 
   pub fits-syndrome : (e : List ℕ) → T (fits p y e) → syndrome p e ≡ syndrome p y
   unfolding fits
   fits-syndrome e h =
-      same_syndrome_lem p y e (and_left (same_syndrome p y e) (nowhere_above e y) (and_left (same_syndrome p y e && nowhere_above e y) (is_codeword p (subtract y e)) h))
+      same_syndrome_lem p y e (and_left (same_syndrome p y e) (nowhere_above e y)
+      (and_left (same_syndrome p y e && nowhere_above e y) (is_codeword p (subtract y e)) h))
 
   fits-codeword : (e : List ℕ) → T (fits p y e) → Codeword p (subtract y e)
   unfolding fits
