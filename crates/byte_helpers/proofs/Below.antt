@@ -1,14 +1,14 @@
 -- The test of each cell by the largest.
-use mathlib.Core.Path.{◌≡◌, refl, ap, ◌∙◌}
+use mathlib.Core.Path.{◌≡◌, refl, sym, ap, ◌∙◌}
 use mathlib.Core.Bool.{Bool, true, false, ◌&&◌}
 use mathlib.Core.List.{List, [], ◌∷◌, ◌++◌}
-use Prim.Native.Nat.{ℕ, suc, ◌+◌, ◌-◌, ◌≤◌, ◌<◌}
+use Prim.Native.Nat.{ℕ, suc, ◌+◌, ◌≤◌, ◌<◌}
 use native.Mathlib.Numerals.{add-one}
 use native.Mathlib.Decide.{dec_lt}
 use native.Mathlib.Omega.{arith}
 use lib.Dec.{eqb, ltb}
-use lib.ListN.{length, take, drop, length-drop}
-use lib.Seq.{take_all, take-suc}
+use lib.ListN.{length, take}
+use lib.Seq.{take-suc}
 use borrow.Author.Tests.{lt-ltb, le-ltb, ne_eqb}
 use Rattle.definitions.specs.Words.{at, all_below}
 
@@ -46,6 +46,13 @@ larger_right b t x h = step (dec_lt t b)
     step : Dec (t < b) → ltb t b ≡ (ltb t b && ltb x b)
     step (yes g) = let k : x < b = omega arith in simp (lt-ltb x b k, lt-ltb t b g)
     step (no g) = let k : b ≤ t = omega arith in simp (le-ltb t b k)
+
+-- one cell more, where it is larger than all before it and where it is not
+pub larger_cell : (b t i : ℕ) (s : List ℕ) → i < length s → t < at s i → ltb t b ≡ all_below b (take i s) → ltb (at s i) b ≡ all_below b (take (i + 1) s)
+larger_cell b t i s h more all = larger_left b t (at s i) more ∙ ap (λ (a : Bool). a && ltb (at s i) b) all ∙ sym (below_more b s i h)
+
+pub no_larger_cell : (b t i : ℕ) (s : List ℕ) → i < length s → at s i ≤ t → ltb t b ≡ all_below b (take i s) → ltb t b ≡ all_below b (take (i + 1) s)
+no_larger_cell b t i s h less all = larger_right b t (at s i) less ∙ ap (λ (a : Bool). a && ltb (at s i) b) all ∙ sym (below_more b s i h)
 
 -- nothing is below 0
 pub below-zero : (s : List ℕ) → eqb (length s) 0 ≡ all_below 0 s

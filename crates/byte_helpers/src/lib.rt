@@ -1,4 +1,6 @@
 // What the layers above do with bytes: widen, bound, add modulo m, copy.
+#![tactic(auto)]
+
 ghost use Rattle.std.specs.Prelude.{◌≡◌, ℕ, ◌+◌, ◌*◌, ◌%◌, ◌<◌, ◌≤◌, ltb, length};
 ghost use Rattle.definitions.specs.Words.{all_below};
 
@@ -42,6 +44,7 @@ pub fn add_modulo(m: u8, a: u8, e: u8) -> u8
 }
 
 // The largest byte, or 0: a loop with one exit, which runs on many bytes at a time.
+#[tactic(auto, using(crate::proofs::Below::larger_cell, crate::proofs::Below::no_larger_cell))]
 fn largest(s: &[u8]) -> u8
     ensures { (b : ℕ) → 0 < b → ltb result b ≡ all_below b s.now }
 {
@@ -72,5 +75,5 @@ pub fn copy(from: &[u8], to: &mut [u8])
     requires { length to.old ≡ length from.now }
     ensures { to.new ≡ from.now }
 {
-    bytes::copy(from, to);
+    to.copy_from_slice(from);
 }

@@ -1,0 +1,5 @@
+use Rattle.byte_helpers.proofs.Below.{below-zero}
+use Rattle.byte_helpers.proofs.all_below.Goals as goal
+
+pub returns-then-bound-eq0 : goal.returns-then-bound-eq0
+returns-then-bound-eq0 c = rw c.if-bound-eq0.true (below-zero c.args.s.now)
