@@ -8,7 +8,7 @@ use Prim.Native.Nat.{ℕ}
 use lib.Dec.{T, eqb, eqb→eq}
 use lib.ListN.{length}
 use borrow.Author.Tests.{not-true, not-false}
-use Rattle.definitions.specs.Answers.{Answer, given, refused, Result, refuse◌when◌else◌, result, after}
+use Rattle.definitions.specs.Answers.{Answer, given, refused, Result, result, after}
 use Rattle.definitions.proofs.Tests.{and_left, and_right}
 use Rattle.definitions.proofs.Beginning.{operation}
 use Rattle.answers.specs.Answering.{refusal_number, refusal_plane, with_plane, refused_as, leaves}

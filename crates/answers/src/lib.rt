@@ -1,9 +1,11 @@
 // What the operations answer, once for all of them, and the test of their buffers.
+#![tactic(auto)]
+
 ghost use Rattle.std.specs.Prelude.{◌≡◌, ◌&&◌, eqb};
 ghost use Rattle.answers.specs.Answering.{refusal_number};
 
 // Why an operation declines: document 01's numbers 1 to 16, and document 02's.
-#[derive(Drop)]
+#[derive(Clone, Copy)]
 pub enum Refusal {
     // 1: too few bytes for the fields
     TooShort,
