@@ -1,4 +1,6 @@
 // Powers of two, and the bits of bytes: bit k is the bit of value 2^(k mod 8) in byte floor(k/8).
+#![tactic(auto)]
+
 ghost use Rattle.std.specs.Prelude.{◌≡◌, ◌+◌, ◌*◌, ◌^◌, ◌≤◌};
 ghost use Rattle.definitions.specs.Words.{at};
 ghost use Rattle.definitions.specs.PowersOfTwo.{log2, is_power_of_two};
