@@ -1,11 +1,13 @@
 // The reader of document 01's bytes: it stays on the lent bytes and remembers its next bit.
+#![tactic(auto)]
+
 ghost use Rattle.std.specs.Prelude.{◌≡◌, ℕ, ◌+◌, ◌<◌, ◌≤◌, ◌^◌};
 ghost use Rattle.definitions.specs.Packing.{symbol_at};
 ghost use Rattle.bit_reader.specs.Taking.{width_in, Narrow, Begun, put, Taken};
 
 // How many bits the symbol of each of n cells has: `wide` before the check cells, before which there are `leading` cells,
 // and `narrow` at them.
-#[derive(Drop)]
+#[derive(Clone, Copy)]
 pub struct Layout {
     pub n: usize,
     pub leading: usize,
@@ -63,7 +65,7 @@ pub fn put(t: Taking, v: u8) -> Taking
 }
 
 // The bytes that are read, and the next bit. Only `advance` moves it on.
-#[derive(Drop)]
+#[derive(Clone, Copy)]
 pub struct BitReader<'a> {
     src: &'a [u8],
     bit: usize,
