@@ -1,10 +1,10 @@
 -- What opening shows.
-use mathlib.Core.Path.{◌≡◌, refl, sym, ap, ◌∙◌}
+use mathlib.Core.Path.{◌≡◌, sym, ap, ◌∙◌}
 use mathlib.Core.Bool.{Bool, true, false, not}
 use mathlib.Core.List.{List}
 use Prim.Native.Nat.{ℕ, ◌+◌, ◌*◌, ◌-◌, ◌≤◌}
 use native.Mathlib.Omega.{arith}
-use lib.Dec.{T, eqb, ltb}
+use lib.Dec.{T, eqb}
 use lib.ListN.{length, drop, length-drop}
 use lib.Seq.{length-take-le}
 use borrow.Author.Tests.{not-false, le-ltb}
@@ -16,7 +16,7 @@ use Rattle.definitions.specs.CodeOperations.{in_range, open_code}
 use Rattle.definitions.proofs.Tests.{below_each}
 use Rattle.answers.specs.Answering.{refused_as}
 use Rattle.answers.specs.declared.Refusal.{Refusal}
-use Rattle.opening.specs.Opening.{code_with, part, opened_as, matrix_tested, Ready, Place, Placed}
+use Rattle.opening.specs.Opening.{code_with, part, opened_as, matrix_tested, Place}
 use Rattle.opening.specs.declared.Parameters.{Parameters}
 use Rattle.opening.specs.declared.Opened.{Opened}
 use Rattle.opening.specs.declared.Opened.TheVariants.{Open, Refused}

@@ -1,4 +1,6 @@
 // Opening a description: from its bytes to a code's parameters and the place of its matrix, or to a refusal.
+#![tactic(auto)]
+
 ghost use Rattle.std.specs.Prelude.{◌≡◌, true, List, ℕ, suc, ◌+◌, ◌*◌, ◌^◌, ◌-◌, ◌≤◌, ◌<◌, length, drop};
 ghost use Rattle.definitions.specs.Words.{sum_to};
 ghost use Rattle.definitions.specs.Codes.{code_of};
@@ -10,7 +12,7 @@ ghost use Rattle.opening.specs.Opening.{code_with, part, opened_as, Placed, matr
 use answers::Refusal;
 
 // The parameters of a code; m is document 01's M. The matrix stays in the lent description.
-#[derive(Drop)]
+#[derive(Clone, Copy)]
 pub struct Parameters {
     pub n: usize,
     pub r: usize,
@@ -140,6 +142,7 @@ pub fn matrix_size(n: usize, r: usize) -> usize
 }
 
 // The last tests of an opening, of the matrix of a code or a plane whose fields are in range.
+#[tactic(auto, unfolding(definitions::specs::Patterns::pattern_count))]
 pub fn open_matrix(body: &[u8], parameters: Parameters, start: usize, end: usize) -> Opened
     requires range { (A : List ℕ) → in_range (code_with parameters A) ≡ true }
     requires size { end ≡ start + parameters.r * (parameters.n - parameters.r) }
@@ -162,6 +165,7 @@ pub fn open_matrix(body: &[u8], parameters: Parameters, start: usize, end: usize
 }
 
 // Open a code's description. The first refusal in document 01's order is the answer.
+#[tactic(auto, unfolding(definitions::specs::CodeOperations::open_code))]
 pub fn open(body: &[u8]) -> Opened
     ensures opened { opened_as body.now result ≡ open_code body.now }
     ensures placed { Placed body.now 6 (length body.now) result }
