@@ -1,4 +1,6 @@
 // The syndrome of a word, and what it is made of: sums of products along a row of the matrix, and the entries of a cell's column.
+#![tactic(auto)]
+
 ghost use Rattle.std.specs.Prelude.{◌≡◌, ◌+◌, ◌*◌, ◌-◌, ◌/◌, ◌<◌, ◌≤◌, length};
 ghost use Rattle.definitions.specs.Words.{at, sum_to, all_zero};
 ghost use Rattle.definitions.specs.Codewords.{syndrome_entry, syndrome};

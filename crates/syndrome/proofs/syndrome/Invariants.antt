@@ -1,0 +1,14 @@
+use Prim.Native.Nat.{ℕ, ◌-◌, ◌≤◌, ◌<◌}
+use mathlib.Core.Path.{◌≡◌}
+use lib.ListN.{length}
+use Rattle.definitions.specs.Words.{at}
+use Rattle.definitions.specs.Codewords.{syndrome_entry}
+use Rattle.opening.specs.Opening.{code_with}
+use Rattle.syndrome.proofs.syndrome.Given as goal
+
+abbrev pub invariant-loop-i : goal.invariant-loop-i
+invariant-loop-i l = (l.i ≤ l.r) × (length l.s ≡ 12) × ((j : ℕ) → j < l.i → at l.s j ≡ syndrome_entry (code_with l.p l.matrix) l.word j)
+    × ((j : ℕ) → l.i ≤ j → at l.s j ≡ 0)
+
+abbrev pub decreases-loop-i : goal.decreases-loop-i
+decreases-loop-i l = l.r - l.i
