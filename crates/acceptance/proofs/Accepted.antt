@@ -7,7 +7,7 @@ use native.Mathlib.Nat.{zero-add}
 use native.Mathlib.Omega.{arith}
 use lib.Dec.{T}
 use lib.ListN.{length, length-map}
-use Rattle.definitions.specs.Words.{at, up_from, same_word}
+use Rattle.definitions.specs.Words.{up_from, same_word}
 use Rattle.definitions.specs.Codewords.{syndrome}
 use Rattle.definitions.specs.Patterns.{patterns, patterns_of, pattern_count}
 use Rattle.definitions.specs.Acceptance.{all_different, accepted}

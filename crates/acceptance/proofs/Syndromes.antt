@@ -101,7 +101,8 @@ module _ (p : Parameters) (A cols : List ℕ) (ready : Ready p A) (table : Colum
       step k h (yes d) = entry-end a k la d ∙ entry k d ∙ sym (entry-end b k lb d)
       step k h (no d) = past_end a k la (omega arith) h ∙ sym (past_end b k lb (omega arith) h)
 
-  pub same_syndrome_lem : (a b : List ℕ) → length a ≡ p.n → length b ≡ p.n → ((k : ℕ) → k < 12 → at (end a) k ≡ at (end b) k) → syndrome code a ≡ syndrome code b
+  pub same_syndrome_lem : (a b : List ℕ) → length a ≡ p.n → length b ≡ p.n → ((k : ℕ) → k < 12 → at (end a) k ≡ at (end b) k)
+      → syndrome code a ≡ syndrome code b
   unfolding syndrome
   same_syndrome_lem a b la lb h =
       map_same (syndrome_entry code a) (syndrome_entry code b) (up_from 0 p.r)

@@ -1,4 +1,6 @@
 // Acceptance of a code: are the syndromes of all its patterns different?
+#![tactic(auto)]
+
 mod listing;
 mod pairs;
 
