@@ -118,7 +118,8 @@ map-up_from f g a (suc n) h =
 
 pub word_same : (n : ℕ) (k k' : Risen) → ((i : ℕ) → i < n → magnitude_at k i ≡ magnitude_at k' i) → word_of n k ≡ word_of n k'
 unfolding word_of
-word_same n k k' h = map-up_from (magnitude_at k) (magnitude_at k') 0 n (λ i b. ap (magnitude_at k) (zero-add i) ∙ h i b ∙ ap (magnitude_at k') (sym (zero-add i)))
+word_same n k k' h = map-up_from (magnitude_at k) (magnitude_at k') 0 n
+    (λ i b. ap (magnitude_at k) (zero-add i) ∙ h i b ∙ ap (magnitude_at k') (sym (zero-add i)))
 
 -- the choices so far, as the search goes on
 pub chosen_none : (left : ℕ) → left ≤ 3 → Chosen unrisen left 0

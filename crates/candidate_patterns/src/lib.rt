@@ -1,4 +1,6 @@
 // One error pattern of a search: its risen cells, and the test that it has to pass.
+#![tactic(auto)]
+
 ghost use Rattle.std.specs.Prelude.{◌≡◌, true, ℕ, ◌-◌, ◌<◌, ◌≤◌, ltb, length};
 ghost use Rattle.definitions.specs.Words.{at, all_zero};
 ghost use Rattle.definitions.specs.Codewords.{ceiling};
@@ -9,7 +11,7 @@ ghost use Rattle.candidate_patterns.specs.Candidates.{magnitude_of, magnitude_at
 use opening::Parameters;
 
 // At most three risen cells, counted from 0, with their magnitudes; a magnitude of 0 is no choice.
-#[derive(Drop)]
+#[derive(Clone, Copy)]
 pub struct Risen {
     pub c1: usize,
     pub m1: usize,
@@ -20,7 +22,7 @@ pub struct Risen {
 }
 
 // What a search is for: a pattern of this code with the syndrome s and, where a codeword is asked for, that leaves one.
-#[derive(Drop)]
+#[derive(Clone, Copy)]
 pub struct Asked {
     pub p: Parameters,
     pub codeword: bool,
