@@ -37,7 +37,8 @@ unit_column p c h g few i = step (dec_lt i (c - data_cells p)) (dec_lt (c - data
     step (no l) (yes m) = other (λ q. omega arith)
     step (no l) (no m) =
         let e : i ≡ c - data_cells p = omega arith in
-        let here : at (set (replicate 12 0) (c - data_cells p) 1) (c - data_cells p) ≡ 1 = get_or-set_same (replicate 12 0) (c - data_cells p) 1 0 (omega arith) in
+        let here : at (set (replicate 12 0) (c - data_cells p) 1) (c - data_cells p) ≡ 1 =
+        get_or-set_same (replicate 12 0) (c - data_cells p) 1 0 (omega arith) in
         rw (e, here) (column_unit p (c - data_cells p) c h (omega arith))
 
 pub multiple_none : (M : ℕ) (f : ℕ → ℕ) (i : ℕ) → at (replicate 12 0) i ≡ times_of M f 0 i

@@ -1,4 +1,6 @@
 // Filters of the search: that no last choice can leave nothing of a syndrome, at a cell or from a cell on. They only rule out.
+#![tactic(auto)]
+
 ghost use Rattle.std.specs.Prelude.{◌≡◌, true, false, ℕ, ◌+◌, ◌*◌, ◌%◌, ◌<◌, ◌≤◌, length};
 ghost use Rattle.definitions.specs.Words.{at};
 ghost use Rattle.opening.specs.Opening.{code_with, Ready};
