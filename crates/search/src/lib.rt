@@ -1,4 +1,6 @@
 // The first error pattern with a syndrome, shared by codes and digit planes: two functions that choose a cell and a magnitude.
+#![tactic(auto)]
+
 ghost use Rattle.std.specs.Prelude.{◌≡◌, true, ◌+◌, ◌<◌, ◌≤◌, length};
 ghost use Rattle.opening.specs.Opening.{code_with, Ready};
 ghost use Rattle.syndrome.specs.Columns.{Syndrome};
@@ -11,7 +13,7 @@ use candidate_patterns::{Asked, Risen};
 use opening::Parameters;
 
 // The choices so far: the cells risen, how many more are left, from which cell on, and how many patterns were tried before.
-#[derive(Drop)]
+#[derive(Clone, Copy)]
 struct Choices {
     risen: Risen,
     left: usize,
