@@ -4,13 +4,13 @@ use mathlib.Core.List.{List}
 use Prim.Native.Nat.{ℕ, ◌+◌, ◌*◌, ◌-◌, ◌/◌, ◌≤◌, ◌<◌}
 use native.Mathlib.Nat.{lt_of_lt_of_le, mul-div-le}
 use native.Mathlib.Omega.{arith}
-use lib.ListN.{drop, length-drop}
+use lib.ListN.{length, drop, length-drop}
 use lib.Seq.{get_or-drop}
 use Rattle.definitions.specs.Words.{at}
 use Rattle.definitions.specs.Codes.{Code, data_cells}
-use Rattle.definitions.specs.Messages.{Message, check_level}
+use Rattle.definitions.specs.Messages.{Message, message, check_level}
 use Rattle.word_laws.proofs.Cells.{each_at}
-use Rattle.code_theorems.proofs.Messages.{check_small}
+use Rattle.code_theorems.proofs.Messages.{check_small, message_front, message_check}
 use Rattle.syndrome.specs.Columns.{filling_of}
 
 -- what holds of each of r check cells after w cells, as cell w + k and as check cell k
@@ -34,3 +34,12 @@ pub level_from :
     → high + low ≡ check_level p s k
 unfolding check_level
 level_from p s k symbol high low e f g = rw (f, e, g)
+
+-- the symbol i of the message that the word s carries: of a data cell, and of a check cell
+module _ (p : Code) (s : List ℕ) (i : ℕ) where
+  pub message_symbol : p.r ≤ p.n → 0 < p.M → length s ≡ p.n → i < p.n - p.r → at (message p s) i ≡ at s i
+  message_symbol hr hM long h = message_front p hr hM s long i h
+
+  pub message_level : p.r ≤ p.n → 0 < p.M → length s ≡ p.n → p.n - p.r ≤ i → i < p.n → at (message p s) i ≡ at s i / p.M
+  message_level hr hM long h below =
+      from_check (λ j k. at (message p s) j ≡ at s j / p.M) (data_cells p) p.r i (message_check p hr hM s long) h (omega arith)

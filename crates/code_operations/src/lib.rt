@@ -1,5 +1,7 @@
 // The operations on codes that need no search: test, encode, recover. Each takes a code's description; the others take a message or a
 // word and an output buffer too, and write to the buffer only after all refusals.
+#![tactic(auto)]
+
 ghost use Rattle.std.specs.Prelude.{◌≡◌, List, ℕ, ◌<◌, ◌≤◌, length};
 ghost use Rattle.definitions.specs.Words.{at, EachCell};
 ghost use Rattle.definitions.specs.Codewords.{is_codeword};
@@ -130,6 +132,7 @@ fn is_codeword(matrix: &[u8], p: Parameters, word: &[u8]) -> bool
 }
 
 // Symbol i + 1 of the message that a word carries.
+#[tactic(auto, using(crate::proofs::Levels::message_symbol, crate::proofs::Levels::message_level))]
 fn message_cell(p: Parameters, word: &[u8], i: usize) -> u8
     requires { (2 ≤ p.m) × (p.r ≤ p.n) × (length word.now ≡ p.n) × (i < p.n) }
     ensures { (A : List ℕ) → result ≡ at (message (code_with p A) word.now) i }
