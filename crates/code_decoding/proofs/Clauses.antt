@@ -19,33 +19,28 @@ use Rattle.code_theorems.proofs.Tried.{tried_is_place}
 module _ (b y lent : List ℕ) where
   -- the clauses of decode, of its answer and its buffer at exit
   abbrev Clauses : ReadAnswer → List ℕ → Type 0
-  Clauses a out =
-      (leaves (read_as a) out ≡ decode_code b y lent)
-      × ((tried_as a ≡ tried_code b y lent)
-      × (TriedIsPlace (code_of b) y (tried_as a) out
-      × (WhereCodeAccepted b y lent (λ p. DistanceDecides (of_code p) y (read_as a) out)
-      × (WhereCodeReads b y lent (λ p. SomeCodeword (of_code p) y (read_as a) out)
-      × WhereCodeAccepted b y lent (λ p. KeepsMessages (of_code p) y (read_as a) out)))))
+  Clauses a out = record {
+    result : leaves (read_as a) out ≡ decode_code b y lent;
+    tried : tried_as a ≡ tried_code b y lent;
+    tried_is_place : TriedIsPlace (code_of b) y (tried_as a) out;
+    distance_decides : WhereCodeAccepted b y lent (λ p. DistanceDecides (of_code p) y (read_as a) out);
+    some_codeword : WhereCodeReads b y lent (λ p. SomeCodeword (of_code p) y (read_as a) out);
+    keeps_messages : WhereCodeAccepted b y lent (λ p. KeepsMessages (of_code p) y (read_as a) out);
+  }
 
   clauses : (a : ReadAnswer) (out : List ℕ) → leaves (read_as a) out ≡ decode_code b y lent → tried_as a ≡ tried_code b y lent → Clauses a out
   clauses a out e t =
-      let r = decode_code b y lent in (
-        e,
-        (
-          t,
-          (
+      let r = decode_code b y lent in
+      record {
+        result = e;
+        tried = t;
+        tried_is_place =
             subst (λ (u : Answer ℕ). TriedIsPlace (code_of b) y u out) (sym t)
-                (carried (λ _ x. TriedIsPlace (code_of b) y (tried_code b y lent) x) r e (tried_is_place b y lent)),
-            (
-              (λ p opens ly lo h fit. carried (DistanceDecides (of_code p) y) r e (decode_demand b p opens y lent ly lo h fit)),
-              (
-                (λ p opens ly lo h. carried (SomeCodeword (of_code p) y) r e (decode_some b p opens y lent ly lo h)),
-                (λ p opens ly lo h fit. carried (KeepsMessages (of_code p) y) r e (decode_keeps b p opens y lent ly lo h fit)),
-              ),
-            ),
-          ),
-        ),
-      )
+            (carried (λ _ x. TriedIsPlace (code_of b) y (tried_code b y lent) x) r e (tried_is_place b y lent));
+        distance_decides = λ p opens ly lo h fit. carried (DistanceDecides (of_code p) y) r e (decode_demand b p opens y lent ly lo h fit);
+        some_codeword = λ p opens ly lo h. carried (SomeCodeword (of_code p) y) r e (decode_some b p opens y lent ly lo h);
+        keeps_messages = λ p opens ly lo h fit. carried (KeepsMessages (of_code p) y) r e (decode_keeps b p opens y lent ly lo h fit);
+      }
 
   pub refused_clauses : (x : Refusal) → leaves (refused_as x) lent ≡ decode_code b y lent → Clauses (read.Refused x) lent
   unfolding tried_code

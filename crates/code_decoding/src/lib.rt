@@ -1,4 +1,6 @@
 // Decoding a received word of a code. The output buffer is written only after all refusals.
+#![tactic(auto)]
+
 ghost use Rattle.std.specs.Prelude.{◌≡◌, ◌<◌, length};
 ghost use Rattle.definitions.specs.Words.{at, subtract};
 ghost use Rattle.definitions.specs.Codes.{code_of};
