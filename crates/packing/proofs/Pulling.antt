@@ -1,15 +1,12 @@
 -- How bytes are made: a symbol is pulled, a byte is full, the next byte begins.
-use mathlib.Core.Path.{◌≡◌, refl, sym, ap, ap₂, ◌∙◌, subst}
-use mathlib.Core.Bool.{Bool, true, false, cond}
+use mathlib.Core.Path.{◌≡◌, refl, sym, ap, ◌∙◌}
 use mathlib.Core.Logic.{◌⊎◌, inl, inr, ⊎_elim}
 use mathlib.Core.List.{List}
-use Prim.Native.Nat.{ℕ, zero, suc, ◌+◌, ◌*◌, ◌-◌, ◌/◌, ◌%◌, ◌^◌, ◌≤◌, ◌<◌}
-use native.Mathlib.Nat.{add_assoc, add_comm, mod-eq_of_lt, div-eq_of_lt, zero-mul, zero-add, lt_of_lt_of_le}
+use Prim.Native.Nat.{ℕ, ◌+◌, ◌*◌, ◌-◌, ◌/◌, ◌%◌, ◌^◌, ◌≤◌, ◌<◌}
+use native.Mathlib.Nat.{add_comm, mod-eq_of_lt, div-eq_of_lt, zero-mul, zero-add, lt_of_lt_of_le}
 use native.Mathlib.Numerals.{add-one}
 use native.Mathlib.Decide.{dec_lt}
 use native.Mathlib.Omega.{arith}
-use lib.Dec.{ltb}
-use lib.ListN.{length}
 use lib.Pow.{pow_mono}
 use Rattle.definitions.specs.Words.{at, sum_to}
 use Rattle.definitions.specs.PowersOfTwo.{bit, from_bits}
@@ -17,9 +14,9 @@ use Rattle.definitions.specs.Packing.{bits_of}
 use Rattle.word_laws.proofs.Cells.{at-past}
 use Rattle.word_laws.proofs.Bits.{bits_same, bits_zero, bits_apart, bits_below, bits_whole, bits_low, bits_high}
 use Rattle.word_laws.proofs.BitLists.{bits_long, bits_small, bit_of_symbol}
-use Rattle.bit_reader.specs.Taking.{width_in, Narrow}
+use Rattle.bit_reader.specs.Taking.{width_in}
 use Rattle.bit_reader.specs.declared.Layout.{Layout}
-use Rattle.packing.specs.Packing.{Fitting, Pulling, Full}
+use Rattle.packing.specs.Packing.{Pulling, Full}
 use Rattle.packing.specs.declared.Pulled.{Pulled}
 
 module _ (l : Layout) (s : List ℕ) where

@@ -1,5 +1,7 @@
 // Packing: a code's message to bytes and from bytes (document 01: bytes; document 02, wish 3: leftover bits must be 0). Each operation takes
 // a code's description, its input and an output buffer, and writes to the buffer only after all refusals.
+#![tactic(auto)]
+
 ghost use Rattle.std.specs.Prelude.{◌≡◌, List, ℕ, ◌+◌, ◌*◌, ◌/◌, ◌<◌, ◌≤◌, length, take};
 ghost use Rattle.definitions.specs.Words.{at, sum_to};
 ghost use Rattle.definitions.specs.Codes.{Code};
