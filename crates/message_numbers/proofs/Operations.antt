@@ -1,10 +1,10 @@
 -- What both operations begin with, and from their equations to their clauses.
-use mathlib.Core.Path.{◌≡◌, sym, subst}
+use mathlib.Core.Path.{◌≡◌, sym, ap, subst, ◌∙◌}
 use mathlib.Core.List.{List}
 use Prim.Native.Nat.{ℕ, ◌^◌, ◌<◌}
 use lib.ListN.{length}
 use borrow.Author.Tests.{eq-eqb, ne_eqb, lt-ltb}
-use Rattle.definitions.specs.Answers.{Answer, given, refused, refuse◌when◌else◌}
+use Rattle.definitions.specs.Answers.{Answer, given, refused}
 use Rattle.definitions.specs.Codes.{Code}
 use Rattle.definitions.specs.CodeOperations.{open_code}
 use Rattle.definitions.specs.MessageNumbers.{radix_product}
@@ -13,9 +13,12 @@ use Rattle.code_theorems.proofs.MessageNumbers.{message_demand, number_demand}
 use Rattle.answers.specs.Answering.{refused_as, leaves}
 use Rattle.answers.specs.declared.Refusal.{Refusal}
 use Rattle.answers.proofs.Beginning.{carried, after-refused, result-refused}
-use Rattle.opening.specs.Opening.{Place}
+use Rattle.opening.specs.Opening.{code_with, part, opened_as, Place}
 use Rattle.opening.specs.declared.Parameters.{Parameters}
-use Rattle.message_numbers.specs.Numbering.{Radices, WhereNumber, WhereMessage}
+use Rattle.opening.specs.declared.Opened.{Opened}
+use Rattle.opening.specs.declared.Opened.TheVariants.{Open}
+use Rattle.message_numbers.specs.Numbering.{stopped, Radices, WhereNumber, WhereMessage}
+use Rattle.message_numbers.proofs.Products.{above}
 
 -- the refusals of "open; 8; 17"
 module _ (b : List ℕ) (k : ℕ) where
@@ -31,6 +34,14 @@ module _ (b : List ℕ) (k : ℕ) where
     pub begin_product : k ≡ p.n → 2 ^ 63 < radix_product p → open_numbered b k ≡ refused 17
     unfolding open_numbered
     begin_product e h = rw (opens, eq-eqb k p.n e, lt-ltb (2 ^ 63) (radix_product p) h)
+
+-- 17, by what opening answered and the product with its stop
+pub too_many :
+    (b : List ℕ) (k : ℕ) (o : Opened) (p : Parameters) (start end product : ℕ) → opened_as b o ≡ open_code b → o ≡ Open p start end → k ≡ p.n
+    → ((A : List ℕ) → product ≡ stopped (radix_product (code_with p A))) → 2 ^ 63 < product → open_numbered b k ≡ refused 17
+too_many b k o p start end product told e long is h =
+    let A = part b start end in
+    begin_product b k (code_with p A) (sym told ∙ ap (opened_as b) e) long (above (radix_product (code_with p A)) (subst (λ (y : ℕ). 2 ^ 63 < y) (is A) h))
 
 pub radices : {b : List ℕ} {p : Parameters} {start end : ℕ} → Place b p start end → Radices p
 radices o = let h = o.ready in record { r = h.r-below; q = h.q-high; m-low = h.m-low; m-high = h.m-high }

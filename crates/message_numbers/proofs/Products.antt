@@ -1,7 +1,7 @@
 -- Products with a stop, and the product of the radices in two parts.
 use mathlib.Core.Path.{◌≡◌, sym, ap, ◌∙◌}
 use mathlib.Core.Logic.{◌⊎◌, inl, inr, ⊎_elim}
-use Prim.Native.Nat.{ℕ, zero, suc, ◌+◌, ◌*◌, ◌-◌, ◌/◌, ◌^◌, ◌≤◌, ◌<◌}
+use Prim.Native.Nat.{ℕ, zero, suc, ◌+◌, ◌*◌, ◌/◌, ◌^◌, ◌≤◌, ◌<◌}
 use native.Mathlib.Nat.{add-zero, add-suc, one-mul, mul-one, mul_assoc, pow-zero, pow-suc, one-le-pow, pow-le-pow_right}
 use native.Mathlib.Nat.{lt_of_lt_of_le, mul-le-mul_left, le-mul_of_pos_right, le-div_iff_mul-le, div-lt_iff_lt-mul}
 use native.Mathlib.Numerals.{add-one}

@@ -1,5 +1,7 @@
 // A code's message as one whole number, in mixed radix: the first symbol is the least significant (document 02, wish 2). Each operation
 // takes a code's description; the buffer is written only after all refusals.
+#![tactic(auto)]
+
 ghost use Rattle.std.specs.Prelude.{◌≡◌, List, ℕ, ◌+◌, ◌*◌, ◌^◌, ◌≤◌, ◌<◌, length};
 ghost use Rattle.definitions.specs.Messages.{Message};
 ghost use Rattle.definitions.specs.Packing.{radix};
@@ -78,6 +80,7 @@ fn why_refused(o: Numbered) -> Refusal
 }
 
 // Document 02: open, 8, 17, which both operations begin with. The message, or the buffer for it, has so many symbols.
+#[tactic(auto, using(crate::proofs::Operations::too_many))]
 fn open_numbered(body: &[u8], symbols: usize) -> Numbered
     ensures { Begun body.now symbols result }
 {
