@@ -101,3 +101,7 @@ no_permutation t n = (step (is_permutation t) refl, (λ h. absurd h, λ p. absur
     step : (b : Bool) → is_permutation t ≡ b → false ≡ b
     step true e = absurd (n (test_permutation t (subst T (sym e) tt)))
     step false e = refl
+
+-- a level that is not below the table's length
+pub level_beyond : (t : List ℕ) (s : ℕ) → s < length t → length t ≤ at t s → false ≡ is_permutation t
+level_beyond t s k h = (no_permutation t (λ p. let y = each_at (λ v. v < length t) t p.levels s k in omega arith)).0

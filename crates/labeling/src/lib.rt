@@ -1,4 +1,6 @@
 // Labels: labelings of physical states with levels. A label table has the level of state s at entry s.
+#![tactic(auto)]
+
 ghost use Rattle.std.specs.Prelude.{◌≡◌, ◌&&◌, not, ◌↔◌, ◌<◌, ◌≤◌, T, eqb, length};
 ghost use Rattle.definitions.specs.Answers.{given};
 ghost use Rattle.definitions.specs.CodeOperations.{between};
@@ -41,6 +43,7 @@ fn state_of(table: &[u8], level: Level) -> State
 }
 
 // Whether a table is a permutation. Each entry marks its level; a byte is below 256.
+#[tactic(auto, using(crate::proofs::Marking::level_beyond))]
 pub fn is_permutation(table: &[u8]) -> bool
     ensures test { result ≡ is_permutation table.now }
     ensures proposition { T result ↔ Permutation table.now }
