@@ -1,4 +1,6 @@
 // Opening a stack's description: from its bytes to the stack's parameters and its planes, or to a refusal.
+#![tactic(auto)]
+
 ghost use Rattle.std.specs.Prelude.{◌≡◌, ◌≤◌, length, drop};
 ghost use Rattle.definitions.specs.StackOperations.{plane_in_range, open_plane, open_planes, stack_in_range, open_stack};
 ghost use Rattle.answers.specs.declared.Refusal.{Refusal};
@@ -10,7 +12,7 @@ use opening::{Opened, Parameters};
 
 // An opened plane: its parameters as a code's, where its matrix starts and ends in the lent description, its place value
 // (document 01's weight) and, in a message, the place of its first symbol.
-#[derive(Drop)]
+#[derive(Clone, Copy)]
 pub struct Plane {
     pub parameters: Parameters,
     pub start: usize,
@@ -20,7 +22,7 @@ pub struct Plane {
 }
 
 // The parameters of a stack: its cells, its planes, its levels, and the symbols of a message.
-#[derive(Drop)]
+#[derive(Clone, Copy)]
 pub struct StackParameters {
     pub n: usize,
     pub m: usize,
