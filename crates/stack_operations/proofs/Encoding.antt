@@ -139,7 +139,8 @@ module _ {b : List ℕ} {n m : ℕ} {planes : List Plane} (fits : m ≤ length p
     symbols-here = (omega (arith, count, length-drop (symbol_at b planes j) msg), split.0)
 
     level_split : (i : ℕ) → i < n
-        → level_left b planes m msg n j i ≡ at (encode_plane code (symbols_left b planes m msg j)) i * value_at b planes j + level_left b planes m msg n (j + 1) i
+        → level_left b planes m msg n j i ≡ at (encode_plane code (symbols_left b planes m msg j)) i * value_at b planes j
+        + level_left b planes m msg n (j + 1) i
     level_split i h =
         let w = value_at b planes j in
         let x = symbols_left b planes m msg j in

@@ -1,5 +1,7 @@
 // The operations on stacks that need no search: test, encode, recover. Each takes a stack's description; the others take a message or a
 // word and an output buffer too, and write to the buffer only after all refusals.
+#![tactic(auto)]
+
 ghost use Rattle.std.specs.Prelude.{◌≡◌, ℕ, ◌+◌, ◌*◌, ◌-◌, ◌/◌, ◌%◌, ◌<◌, ◌≤◌, length, take};
 ghost use Rattle.definitions.specs.Words.{at, EachCell};
 ghost use Rattle.definitions.specs.Stacks.{digits};
