@@ -1,4 +1,6 @@
 // Decoding a stack's received word, plane after plane. The output buffer is written only after all planes are decoded.
+#![tactic(auto)]
+
 ghost use Rattle.std.specs.Prelude.{◌≡◌, ℕ, ◌+◌, ◌*◌, ◌-◌, ◌%◌, ◌<◌, ◌≤◌, length, take};
 ghost use Rattle.definitions.specs.Words.{distance};
 ghost use Rattle.definitions.specs.Stacks.{digits};
