@@ -1,4 +1,6 @@
 // The directory of a cartridge image (document 01: contents): its entries, and whether it is as document 01 says.
+#![tactic(auto)]
+
 ghost use Rattle.std.specs.Prelude.{◌≡◌, ◌+◌, ◌<◌, ◌≤◌, length};
 ghost use Rattle.definitions.specs.CodeOperations.{between};
 ghost use Rattle.definitions.specs.Images.{sixteen_bits, entry_at, body_of, directory_end, entry_numbers, bodies_follow, contents_right};
