@@ -1,4 +1,6 @@
 // Checking a cartridge image: its contents, then each entry's body and reference.
+#![tactic(auto)]
+
 ghost use Rattle.std.specs.Prelude.{◌≡◌, true};
 ghost use Rattle.definitions.specs.Images.{passes_test, body_passes, reference_right, entry_right, entries_right, entry_numbers, contents_right, check_image};
 ghost use Rattle.definitions.specs.CodeOperations.{test_code};
