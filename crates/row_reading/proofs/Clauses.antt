@@ -40,7 +40,8 @@ module _ (x : List ℕ) (k : ℕ) (lent : List ℕ) where
       step (stack a t) = absurd (omega arith)
 
   -- and an accepted stack
-  stack_accepted : CheckedRow x k → (entry_at x (reference_of x k)).kind ≡ 2 → (S : Stack) → open_stack (body_of x (reference_of x k)) ≡ given S → AcceptedStack S
+  stack_accepted : CheckedRow x k → (entry_at x (reference_of x k)).kind ≡ 2 → (S : Stack)
+      → open_stack (body_of x (reference_of x k)) ≡ given S → AcceptedStack S
   stack_accepted c e S opens = step (row_of x c.checked k c.row).named
     where
       step : Named x (reference_of x k) → AcceptedStack S

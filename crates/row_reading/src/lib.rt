@@ -1,4 +1,6 @@
 // Reading a row entry of a cartridge image.
+#![tactic(auto)]
+
 ghost use Rattle.std.specs.Prelude.{◌≡◌};
 ghost use Rattle.definitions.specs.Answers.{given};
 ghost use Rattle.definitions.specs.CodeOperations.{decode_code};
