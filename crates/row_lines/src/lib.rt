@@ -1,4 +1,6 @@
 // The lines of cartlist, written into a buffer from a place on. Each function answers the place after what it wrote.
+#![tactic(auto)]
+
 ghost use Rattle.std.specs.Prelude.{◌≡◌, ◌∷◌, ◌++◌, ◌+◌, ◌*◌, ◌<◌, ◌≤◌, length};
 ghost use Rattle.definitions.specs.Words.{EachCell};
 ghost use Rattle.definitions.specs.CartridgeLists.{refused_text, count_text, levels_text, decimal, spaced, outcome_text, row_line, image_line};
