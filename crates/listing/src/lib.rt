@@ -1,4 +1,6 @@
 // What cartlist prints for an image, written into a buffer. The image is checked once, and then its rows are read, however many.
+#![tactic(auto)]
+
 ghost use Rattle.std.specs.Prelude.{◌≡◌, ◌+◌, ◌≤◌, length, replicate};
 ghost use Rattle.definitions.specs.Words.{at};
 ghost use Rattle.definitions.specs.Answers.{given};
@@ -75,6 +77,7 @@ fn put_rows(image: &[u8], out: &mut [u8]) -> usize
 }
 
 // The lines of an image, at the start of a buffer of 8,192 bytes; what is counted is their bytes.
+#[tactic(auto, using(crate::proofs::AllLines::wrong_buffer))]
 pub fn list(image: &[u8], out: &mut [u8]) -> Outcome
     ensures result { leaves (outcome_as result) out.new ≡ list_image image.now out.old }
     ensures within { WithinLines result }
