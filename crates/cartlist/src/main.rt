@@ -1,9 +1,11 @@
 // The program cartlist: an image on standard input, a line for each row entry on standard output.
+#![tactic(auto)]
+
 ghost use Rattle.std.specs.Prelude.{◌+◌, ◌≤◌, length};
 ghost use Rattle.cartlist.specs.Input.{Within};
 
 use answers::Outcome;
-use libc::{STDIN_FILENO, STDOUT_FILENO};
+use std::io::{self, Read};
 
 // What was read, or that a read failed.
 #[derive(Drop)]
@@ -13,25 +15,24 @@ enum Input {
 }
 
 // One read, behind the bytes that are there.
-fn read_more(input: &mut [u8], from: usize) -> Input
+fn read_more<R: Read>(reader: &mut R, input: &mut [u8], from: usize) -> Input
     requires { from ≤ length input.old }
     ensures { Within from result input.new }
 {
     let rest = &mut input[from..];
-    let got = libc::read(STDIN_FILENO, rest);
-    if got < 0 {
-        return Input::Failed;
+    match reader.read(rest) {
+        Ok(k) => Input::Bytes(k),
+        Err(_) => Input::Failed,
     }
-    Input::Bytes(io::count(got, rest))
 }
 
 // Reads until the input ends or the buffer is full, however small the pieces.
-fn read_image(input: &mut [u8]) -> Input
+fn read_image<R: Read>(reader: &mut R, input: &mut [u8]) -> Input
     ensures { Within 0 result input.new }
 {
     let mut n = 0;
     while n < input.len() {
-        let more = read_more(input, n);
+        let more = read_more(reader, input, n);
         let Input::Bytes(k) = more else {
             return Input::Failed;
         };
@@ -44,20 +45,21 @@ fn read_image(input: &mut [u8]) -> Input
 }
 
 // What cartlist prints for an image. An output that is closed ends the program without a word.
-fn print_lines(image: &[u8]) {
+fn print_lines(rt: &impl Print, image: &[u8]) {
     let mut lines = [0u8; 8192];
     let a = listing::list(image, &mut lines);
     if let Outcome::Count(k) = a {
-        io::write_all(STDOUT_FILENO, &lines[..k]);
+        let _ = rt.write_all(&lines[..k]);
     }
 }
 
 // The buffer has 65,536 bytes, one more than an image, so that longer input is refused. A read that fails ends the program without a
 // word.
-fn main() {
-    let mut input = io::large_buffer();
-    let got = read_image(&mut input);
+fn main(rt: HostRuntime) -> io::Result<()> {
+    let mut input = [0u8; 65536];
+    let got = read_image(&mut rt.reader(), &mut input);
     if let Input::Bytes(n) = got {
-        print_lines(&input[..n]);
+        print_lines(&rt, &input[..n]);
     }
+    Ok(())
 }

@@ -1,0 +1,9 @@
+use Rattle.std.proofs.Common.{length, ◌-◌, ◌≤◌, ◌≡◌}
+use Rattle.cartlist.proofs.read_image.Given as goal
+
+-- what was read lies within the buffer
+abbrev pub invariant-loop-n : goal.invariant-loop-n
+invariant-loop-n g l = (l.n ≤ length l.input) × (length l.input ≡ length l.initial.input)
+
+abbrev pub decreases-loop-n : goal.decreases-loop-n
+decreases-loop-n g l = length l.initial.input - l.n
