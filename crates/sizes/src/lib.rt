@@ -1,4 +1,6 @@
 // Sizes that a caller needs before a call, since document 01's 8 asks for exact lengths.
+#![tactic(auto)]
+
 ghost use Rattle.std.specs.Prelude.{◌≡◌};
 ghost use Rattle.definitions.specs.Sizes.{code_cells, stack_cells, stack_symbols};
 ghost use Rattle.answers.specs.Answering.{sized_as};
