@@ -3,11 +3,9 @@ use mathlib.Core.Path.{◌≡◌, refl, sym, ◌∙◌}
 use mathlib.Core.Option.{Option, none, some}
 use Prim.Native.Nat.{ℕ, ◌≤◌}
 use native.Mathlib.Omega.{arith}
-use Rattle.definitions.specs.Answers.{Answer}
 use Rattle.answers.specs.Answering.{refusal_number, refusal_plane, with_plane, refused_as}
 use Rattle.answers.specs.declared.Refusal.{Refusal}
 use Rattle.answers.specs.declared.Refusal.TheVariants as refusal
-use Rattle.numbered_answers.specs.declared.Reading.{Reading}
 use Rattle.numbered_answers.specs.Numbers.{number_of, count_of, answer_plane, or_zero, plane_number, ReadNumbered, SizeNumbered, ValueNumbered}
 
 -- a refusal's number is not 0

@@ -1,4 +1,6 @@
 // Answers as numbers, for other languages: 0 where nothing is refused, else the refusal's number; what does not apply is 0.
+#![tactic(auto)]
+
 ghost use Rattle.std.specs.Prelude.{◌≡◌};
 ghost use Rattle.answers.specs.Answering.{tested_as, written_as, read_as, tried_as, outcome_as, sized_as, number_as};
 ghost use Rattle.numbered_answers.specs.Numbers.{number_of, count_of, plane_number, ReadNumbered, SizeNumbered, ValueNumbered};
