@@ -1,17 +1,15 @@
 -- What the distance decides of a record it decides of the numbers that stand for it.
-use mathlib.Core.Path.{◌≡◌, sym, subst, ◌∙◌}
+use mathlib.Core.Path.{◌∙◌}
 use mathlib.Core.List.{List}
 use Prim.Native.Nat.{ℕ}
 use Rattle.definitions.specs.Demands.{Coding}
-use Rattle.answers.specs.Answering.{refusal_number, refusal_plane, with_plane, outcome_as}
-use Rattle.answers.specs.declared.Refusal.{Refusal}
+use Rattle.answers.specs.Answering.{refusal_number, refusal_plane, with_plane}
 use Rattle.row_reading.specs.Records.{row_as}
 use Rattle.row_reading.specs.RowClauses.{RecordDecides}
 use Rattle.row_reading.specs.declared.RowAnswer.{RowAnswer}
 use Rattle.row_reading.specs.declared.RowAnswer.TheVariants as answer
 use mathlib.Core.Option.{Option, none, some}
 use Rattle.numbered_answers.proofs.Standing.{outcome_alike, decides_alike}
-use Rattle.numbered_answers.specs.Numbers.{number_of, count_of, count_by}
 use Rattle.row_numbers.specs.declared.RowNumbers.{RowNumbers}
 use Rattle.row_numbers.specs.RowNumbers.{RowNumbered, row_by}
 

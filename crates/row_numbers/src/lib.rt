@@ -1,4 +1,6 @@
 // A row entry for other languages: the answer of reading it as numbers, and the cells that its output row needs.
+#![tactic(auto)]
+
 ghost use Rattle.std.specs.Prelude.{◌≡◌};
 ghost use Rattle.definitions.specs.Sizes.{row_cells};
 ghost use Rattle.answers.specs.Answering.{sized_as};
