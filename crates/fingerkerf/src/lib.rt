@@ -1,4 +1,6 @@
-// The boundary for other languages: each operation with numbers in place of enums. A slice is a pointer, then a length.
+// The boundary for other languages: each operation with numbers in place of enums. The crate fingerkerf_c exports these functions.
+#![tactic(auto)]
+
 ghost use Rattle.std.specs.Prelude.{◌≡◌, length};
 ghost use Rattle.definitions.specs.Codes.{code_of};
 ghost use Rattle.definitions.specs.Acceptance.{Accepted};
@@ -29,8 +31,7 @@ use numbered_answers::{Reading, Size, Value};
 use row_numbers::RowNumbers;
 
 // Test a plan.
-#[unsafe(no_mangle)]
-pub extern "C" fn levels_test(body: &[u8]) -> usize
+pub fn levels_test(body: &[u8]) -> usize
     ensures number { result ≡ number_of (test_code body.now) }
     ensures accepted { WhereCodeOpens body.now (λ p. Tested (Accepted p) (answer_by result)) }
 {
@@ -38,8 +39,7 @@ pub extern "C" fn levels_test(body: &[u8]) -> usize
 }
 
 // Write a message of a plan.
-#[unsafe(no_mangle)]
-pub extern "C" fn levels_encode(body: &[u8], message: &[u8], out: &mut [u8]) -> usize
+pub fn levels_encode(body: &[u8], message: &[u8], out: &mut [u8]) -> usize
     ensures number { result ≡ number_of (encode_code body.now message.now out.old).answer }
     ensures buffer { out.new ≡ (encode_code body.now message.now out.old).out }
     ensures one_codeword { WhereWritable body.now message.now out.old
@@ -49,8 +49,7 @@ pub extern "C" fn levels_encode(body: &[u8], message: &[u8], out: &mut [u8]) -> 
 }
 
 // Read a row of a plan.
-#[unsafe(no_mangle)]
-pub extern "C" fn levels_decode(body: &[u8], word: &[u8], out: &mut [u8]) -> Reading
+pub fn levels_decode(body: &[u8], word: &[u8], out: &mut [u8]) -> Reading
     ensures numbers { ReadNumbered (decode_code body.now word.now out.old).answer result }
     ensures buffer { out.new ≡ (decode_code body.now word.now out.old).out }
     ensures tried { result.tried ≡ count_of (tried_code body.now word.now out.old) }
@@ -66,8 +65,7 @@ pub extern "C" fn levels_decode(body: &[u8], word: &[u8], out: &mut [u8]) -> Rea
 }
 
 // Recover the message of a plan's codeword.
-#[unsafe(no_mangle)]
-pub extern "C" fn levels_recover(body: &[u8], word: &[u8], out: &mut [u8]) -> usize
+pub fn levels_recover(body: &[u8], word: &[u8], out: &mut [u8]) -> usize
     ensures number { result ≡ number_of (recover_code body.now word.now out.old).answer }
     ensures buffer { out.new ≡ (recover_code body.now word.now out.old).out }
     ensures recovered { WhereCodeword body.now word.now out.old
@@ -77,8 +75,7 @@ pub extern "C" fn levels_recover(body: &[u8], word: &[u8], out: &mut [u8]) -> us
 }
 
 // Test a stack.
-#[unsafe(no_mangle)]
-pub extern "C" fn levels_test_stack(body: &[u8]) -> usize
+pub fn levels_test_stack(body: &[u8]) -> usize
     ensures number { result ≡ number_of (test_stack body.now) }
     ensures accepted { WhereStackOpens body.now (λ S. Tested (AcceptedStack S) (answer_by result)) }
 {
@@ -86,8 +83,7 @@ pub extern "C" fn levels_test_stack(body: &[u8]) -> usize
 }
 
 // Write a message of a stack.
-#[unsafe(no_mangle)]
-pub extern "C" fn levels_encode_stack(body: &[u8], message: &[u8], out: &mut [u8]) -> usize
+pub fn levels_encode_stack(body: &[u8], message: &[u8], out: &mut [u8]) -> usize
     ensures number { result ≡ number_of (encode_stack body.now message.now out.old).answer }
     ensures buffer { out.new ≡ (encode_stack body.now message.now out.old).out }
     ensures one_codeword { WhereStackOpens body.now (λ S.
@@ -98,8 +94,7 @@ pub extern "C" fn levels_encode_stack(body: &[u8], message: &[u8], out: &mut [u8
 }
 
 // Read a row of a stack.
-#[unsafe(no_mangle)]
-pub extern "C" fn levels_decode_stack(body: &[u8], word: &[u8], out: &mut [u8]) -> Reading
+pub fn levels_decode_stack(body: &[u8], word: &[u8], out: &mut [u8]) -> Reading
     ensures numbers { ReadNumbered (decode_stack body.now word.now out.old).answer result }
     ensures buffer { out.new ≡ (decode_stack body.now word.now out.old).out }
     ensures tried { result.tried ≡ 0 }
@@ -114,8 +109,7 @@ pub extern "C" fn levels_decode_stack(body: &[u8], word: &[u8], out: &mut [u8]) 
 }
 
 // Recover the message of a stack's codeword.
-#[unsafe(no_mangle)]
-pub extern "C" fn levels_recover_stack(body: &[u8], word: &[u8], out: &mut [u8]) -> usize
+pub fn levels_recover_stack(body: &[u8], word: &[u8], out: &mut [u8]) -> usize
     ensures number { result ≡ number_of (recover_stack body.now word.now out.old).answer }
     ensures buffer { out.new ≡ (recover_stack body.now word.now out.old).out }
     ensures recovered { WhereStackOpens body.now (λ S.
@@ -126,8 +120,7 @@ pub extern "C" fn levels_recover_stack(body: &[u8], word: &[u8], out: &mut [u8])
 }
 
 // Make labels: the table's length is q.
-#[unsafe(no_mangle)]
-pub extern "C" fn levels_make_labels(kind: usize, table: &mut [u8]) -> usize
+pub fn levels_make_labels(kind: usize, table: &mut [u8]) -> usize
     ensures number { result ≡ number_of (make_labels kind table.old).answer }
     ensures buffer { table.new ≡ (make_labels kind table.old).out }
     ensures permutation { answer_by result ≡ given tt → Permutation table.new }
@@ -136,8 +129,7 @@ pub extern "C" fn levels_make_labels(kind: usize, table: &mut [u8]) -> usize
 }
 
 // Apply labels from states to levels.
-#[unsafe(no_mangle)]
-pub extern "C" fn levels_to_levels(table: &[u8], states: &[u8], levels: &mut [u8]) -> usize
+pub fn levels_to_levels(table: &[u8], states: &[u8], levels: &mut [u8]) -> usize
     ensures number { result ≡ number_of (to_levels table.now states.now levels.old).answer }
     ensures buffer { levels.new ≡ (to_levels table.now states.now levels.old).out }
     ensures back { GoesBack (to_states table.now) states.now (answer_by result) levels.new }
@@ -146,8 +138,7 @@ pub extern "C" fn levels_to_levels(table: &[u8], states: &[u8], levels: &mut [u8
 }
 
 // Apply labels from levels to states.
-#[unsafe(no_mangle)]
-pub extern "C" fn levels_to_states(table: &[u8], levels: &[u8], states: &mut [u8]) -> usize
+pub fn levels_to_states(table: &[u8], levels: &[u8], states: &mut [u8]) -> usize
     ensures number { result ≡ number_of (to_states table.now levels.now states.old).answer }
     ensures buffer { states.new ≡ (to_states table.now levels.now states.old).out }
     ensures back { GoesBack (to_levels table.now) levels.now (answer_by result) states.new }
@@ -156,8 +147,7 @@ pub extern "C" fn levels_to_states(table: &[u8], levels: &[u8], states: &mut [u8
 }
 
 // A plan's message to bytes.
-#[unsafe(no_mangle)]
-pub extern "C" fn levels_pack(body: &[u8], message: &[u8], bytes: &mut [u8]) -> usize
+pub fn levels_pack(body: &[u8], message: &[u8], bytes: &mut [u8]) -> usize
     ensures number { result ≡ number_of (pack_code body.now message.now bytes.old).answer }
     ensures buffer { bytes.new ≡ (pack_code body.now message.now bytes.old).out }
     ensures packed { WherePacked body.now message.now bytes.old
@@ -167,8 +157,7 @@ pub extern "C" fn levels_pack(body: &[u8], message: &[u8], bytes: &mut [u8]) -> 
 }
 
 // A plan's message from bytes, whose leftover bits must be 0.
-#[unsafe(no_mangle)]
-pub extern "C" fn levels_unpack(body: &[u8], bytes: &[u8], message: &mut [u8]) -> usize
+pub fn levels_unpack(body: &[u8], bytes: &[u8], message: &mut [u8]) -> usize
     ensures number { result ≡ number_of (unpack_code body.now bytes.now message.old).answer }
     ensures buffer { message.new ≡ (unpack_code body.now bytes.now message.old).out }
     ensures unpacked { WhereUnpacked body.now bytes.now message.old
@@ -178,8 +167,7 @@ pub extern "C" fn levels_unpack(body: &[u8], bytes: &[u8], message: &mut [u8]) -
 }
 
 // A plan's message from a number.
-#[unsafe(no_mangle)]
-pub extern "C" fn levels_message_of_number(body: &[u8], value: u64, message: &mut [u8]) -> usize
+pub fn levels_message_of_number(body: &[u8], value: u64, message: &mut [u8]) -> usize
     ensures number { result ≡ number_of (message_of_number body.now value message.old).answer }
     ensures buffer { message.new ≡ (message_of_number body.now value message.old).out }
     ensures made { WhereNumber body.now value message.old
@@ -189,8 +177,7 @@ pub extern "C" fn levels_message_of_number(body: &[u8], value: u64, message: &mu
 }
 
 // The number of a plan's message.
-#[unsafe(no_mangle)]
-pub extern "C" fn levels_number_of_message(body: &[u8], message: &[u8]) -> Value
+pub fn levels_number_of_message(body: &[u8], message: &[u8]) -> Value
     ensures numbers { ValueNumbered (number_of_message body.now message.now) result }
     ensures made { WhereMessage body.now message.now
         (λ p. NumberMade body.now p message.now (count_by result.number result.value)) }
@@ -199,16 +186,14 @@ pub extern "C" fn levels_number_of_message(body: &[u8], message: &[u8]) -> Value
 }
 
 // Check an image.
-#[unsafe(no_mangle)]
-pub extern "C" fn levels_check_image(image: &[u8]) -> usize
+pub fn levels_check_image(image: &[u8]) -> usize
     ensures { result ≡ number_of (check_image image.now) }
 {
     numbered_answers::of_test(image::check_image(image))
 }
 
 // Read a row entry of an image.
-#[unsafe(no_mangle)]
-pub extern "C" fn levels_read_row(image: &[u8], entry: usize, out: &mut [u8]) -> RowNumbers
+pub fn levels_read_row(image: &[u8], entry: usize, out: &mut [u8]) -> RowNumbers
     ensures numbers { RowNumbered (read_row image.now entry out.old).answer result }
     ensures buffer { out.new ≡ (read_row image.now entry out.old).out }
     ensures plan_decides { WherePlanRow image.now entry out.old
@@ -220,40 +205,35 @@ pub extern "C" fn levels_read_row(image: &[u8], entry: usize, out: &mut [u8]) ->
 }
 
 // The cells of a plan, and the symbols of its message.
-#[unsafe(no_mangle)]
-pub extern "C" fn levels_code_cells(body: &[u8]) -> Size
+pub fn levels_code_cells(body: &[u8]) -> Size
     ensures { SizeNumbered (code_cells body.now) result }
 {
     numbered_answers::of_size(sizes::code_cells(body))
 }
 
 // The bytes of a plan's packed message.
-#[unsafe(no_mangle)]
-pub extern "C" fn levels_packed_bytes(body: &[u8]) -> Size
+pub fn levels_packed_bytes(body: &[u8]) -> Size
     ensures { SizeNumbered (packed_bytes body.now) result }
 {
     numbered_answers::of_size(packing::packed_bytes(body))
 }
 
 // The cells of a stack.
-#[unsafe(no_mangle)]
-pub extern "C" fn levels_stack_cells(body: &[u8]) -> Size
+pub fn levels_stack_cells(body: &[u8]) -> Size
     ensures { SizeNumbered (stack_cells body.now) result }
 {
     numbered_answers::of_size(sizes::stack_cells(body))
 }
 
 // The digits of a stack's message.
-#[unsafe(no_mangle)]
-pub extern "C" fn levels_stack_symbols(body: &[u8]) -> Size
+pub fn levels_stack_symbols(body: &[u8]) -> Size
     ensures { SizeNumbered (stack_symbols body.now) result }
 {
     numbered_answers::of_size(sizes::stack_symbols(body))
 }
 
 // The cells of the plan or stack that a row entry refers to.
-#[unsafe(no_mangle)]
-pub extern "C" fn levels_row_cells(image: &[u8], entry: usize) -> Size
+pub fn levels_row_cells(image: &[u8], entry: usize) -> Size
     ensures { SizeNumbered (row_cells image.now entry) result }
 {
     numbered_answers::of_size(row_numbers::row_cells(image, entry))
