@@ -1,6 +1,5 @@
 // The parts of a line, and the numbers in them.
-ghost use Rattle.std.specs.Prelude.{◌≤◌, ◌<◌, length};
-ghost use Rattle.io.specs.Counts.{IsPrefixLen};
+ghost use Rattle.std.specs.Prelude.{◌≡◌, ◌≤◌, ◌<◌, length, take};
 
 pub fn is_case(line: &[u8]) -> bool {
     if line.len() == 0 {
@@ -9,15 +8,26 @@ pub fn is_case(line: &[u8]) -> bool {
     line[0] != b'#'
 }
 
+// Where the first mark from `from` on stands; the length where there is none.
+pub fn find(s: &[u8], from: usize, mark: u8) -> usize
+    requires { from ≤ length s.now }
+    ensures { (from ≤ result) × (result ≤ length s.now) }
+{
+    match s[from..].iter().position(|b| *b == mark) {
+        Some(k) => from + k,
+        None => s.len(),
+    }
+}
+
 // What stands before the first mark; all where there is none.
 pub fn before(s: &[u8], mark: u8) -> &[u8] {
-    let e = bytes::scan::find(s, 0, s.len(), mark);
+    let e = find(s, 0, mark);
     &s[0..e]
 }
 
 // What stands behind the first mark; nothing where there is none.
 pub fn behind(s: &[u8], mark: u8) -> &[u8] {
-    let e = bytes::scan::find(s, 0, s.len(), mark);
+    let e = find(s, 0, mark);
     if e < s.len() { &s[e + 1..] } else { &s[e..] }
 }
 
@@ -35,10 +45,8 @@ fn with_digit(r: u64, b: u8) -> u64 {
 // The number that a field's digits spell.
 pub fn number(s: &[u8]) -> u64 {
     let mut r = 0;
-    let mut i = 0;
-    while i < s.len() {
-        r = with_digit(r, s[i]);
-        i += 1;
+    for b in s {
+        r = with_digit(r, *b);
     }
     r
 }
@@ -71,12 +79,13 @@ fn store_word(s: &[u8], at: usize, end: usize, out: &mut [u8], n: usize) -> usiz
 
 // The numbers between a field's spaces, into a buffer; how many there are.
 pub fn values(s: &[u8], out: &mut [u8]) -> usize
-    ensures { IsPrefixLen result out.new }
+    ensures within { result ≤ length out.new }
+    ensures prefix { result ≡ length (take result out.new) }
 {
     let mut n = 0;
     let mut at = 0;
     while at < s.len() {
-        let end = bytes::scan::find(s, at, s.len(), b' ');
+        let end = find(s, at, b' ');
         n = store_word(s, at, end, out, n);
         at = end + 1;
     }

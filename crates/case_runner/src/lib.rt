@@ -5,6 +5,8 @@
 // is the operation's word, what it takes (body, input), and last the length of the output, which holds 9s before the
 // call. The input of message_of_number is one number. The answer is followed by what the output holds after the call:
 // `count 2: 3 5 3 1 1`. A line that is empty or starts with # is printed as it is.
+#![tactic(auto)]
+
 mod code_cases;
 mod fields;
 mod image_cases;
@@ -15,30 +17,37 @@ mod printing;
 mod stack_cases;
 
 // The second field is handed over as bytes, and as one number.
-fn run_operation(name: &[u8], first: &[u8], second: &[u8], number: u64, out: &mut [u8]) {
-    if code_cases::run(name, first, second, out) {
+fn run_operation(
+    rt: &impl Print,
+    name: &[u8],
+    first: &[u8],
+    second: &[u8],
+    number: u64,
+    out: &mut [u8],
+) {
+    if code_cases::run(rt, name, first, second, out) {
         return;
     }
-    if stack_cases::run(name, first, second, out) {
+    if stack_cases::run(rt, name, first, second, out) {
         return;
     }
-    if label_cases::run(name, first, second, out) {
+    if label_cases::run(rt, name, first, second, out) {
         return;
     }
-    if packing_cases::run(name, first, second, out) {
+    if packing_cases::run(rt, name, first, second, out) {
         return;
     }
-    if number_cases::run(name, first, number, second, out) {
+    if number_cases::run(rt, name, first, number, second, out) {
         return;
     }
-    if image_cases::run(name, first, second, out) {
+    if image_cases::run(rt, name, first, second, out) {
         return;
     }
-    printing::text(b"no operation of that name");
+    printing::text(rt, b"no operation of that name");
 }
 
 // What an operation takes stands in two fields at most.
-fn run_fields(name: &[u8], first: &[u8], second: &[u8], length: usize) {
+fn run_fields(rt: &impl Print, name: &[u8], first: &[u8], second: &[u8], length: usize) {
     let mut a = [0u8; 1024];
     let mut b = [0u8; 512];
     let mut out = [9u8; 512];
@@ -46,13 +55,13 @@ fn run_fields(name: &[u8], first: &[u8], second: &[u8], length: usize) {
     let m = fields::values(second, &mut b);
     let number = fields::number(second);
     if length <= 512 {
-        run_operation(name, &a[..n], &b[..m], number, &mut out[0..length]);
+        run_operation(rt, name, &a[..n], &b[..m], number, &mut out[0..length]);
     } else {
-        printing::text(b"output too long");
+        printing::text(rt, b"output too long");
     }
 }
 
-fn run_case(line: &[u8]) {
+fn run_case(rt: &impl Print, line: &[u8]) {
     let name = fields::before(line, b' ');
     let rest = fields::behind(line, b' ');
     let first = fields::before(rest, b'/');
@@ -61,26 +70,26 @@ fn run_case(line: &[u8]) {
     let third = fields::behind(others, b'/');
     // the last field is the output's length
     if third.len() == 0 {
-        run_fields(name, first, &[], fields::value(second));
+        run_fields(rt, name, first, &[], fields::value(second));
     } else {
-        run_fields(name, first, second, fields::value(third));
+        run_fields(rt, name, first, second, fields::value(third));
     }
 }
 
-fn run_line(line: &[u8]) {
+fn run_line(rt: &impl Print, line: &[u8]) {
     if fields::is_case(line) {
-        run_case(line);
+        run_case(rt, line);
     } else {
-        printing::text(line);
+        printing::text(rt, line);
     }
-    printing::text(b"\n");
+    printing::text(rt, b"\n");
 }
 
-pub fn run(text: &[u8]) {
+pub fn run(rt: &impl Print, text: &[u8]) {
     let mut at = 0;
     while at < text.len() {
-        let end = bytes::scan::find(text, at, text.len(), b'\n');
-        run_line(&text[at..end]);
+        let end = fields::find(text, at, b'\n');
+        run_line(rt, &text[at..end]);
         at = end + 1;
     }
 }

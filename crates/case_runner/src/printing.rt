@@ -1,110 +1,107 @@
 // Answers as text.
 use answers::{NumberAnswer, Outcome, ReadAnswer, Refusal, SizeAnswer, TestAnswer, WriteAnswer};
-use libc::STDOUT_FILENO;
 use row_reading::RowAnswer;
 
-pub fn text(s: &[u8]) {
-    io::write_all(STDOUT_FILENO, s);
+pub fn text(rt: &impl Print, s: &[u8]) {
+    let _ = rt.write_all(s);
 }
 
-fn number(n: usize) {
-    io::print_decimal(STDOUT_FILENO, n as u64);
+fn number(rt: &impl Print, n: usize) {
+    let _ = rt.print(n);
 }
 
 // A word and a number.
-fn named(name: &[u8], n: usize) {
-    text(name);
-    number(n);
+fn named(rt: &impl Print, name: &[u8], n: usize) {
+    text(rt, name);
+    number(rt, n);
 }
 
-fn spaced(n: usize) {
-    named(b" ", n);
+fn spaced(rt: &impl Print, n: usize) {
+    named(rt, b" ", n);
 }
 
-fn numbers(s: &[u8]) {
-    let mut i = 0;
-    while i < s.len() {
-        spaced(byte_helpers::wide(s[i]));
-        i += 1;
+fn numbers(rt: &impl Print, s: &[u8]) {
+    for b in s {
+        spaced(rt, byte_helpers::wide(*b));
     }
 }
 
 // What an output holds.
-fn buffer(s: &[u8]) {
-    text(b":");
-    numbers(s);
+fn buffer(rt: &impl Print, s: &[u8]) {
+    text(rt, b":");
+    numbers(rt, s);
 }
 
-fn refusal(x: Refusal) {
-    named(b"refused ", answers::refusal_number(x));
+fn refusal(rt: &impl Print, x: Refusal) {
+    named(rt, b"refused ", answers::refusal_number(x));
     if let Refusal::NoPatternInPlane(plane) = x {
-        named(b" plane ", plane);
+        named(rt, b" plane ", plane);
     }
 }
 
-pub fn test(a: TestAnswer) {
+pub fn test(rt: &impl Print, a: TestAnswer) {
     match a {
-        TestAnswer::Accepted => text(b"accepted"),
-        TestAnswer::Refused(x) => refusal(x),
+        TestAnswer::Accepted => text(rt, b"accepted"),
+        TestAnswer::Refused(x) => refusal(rt, x),
     }
 }
 
-pub fn size(a: SizeAnswer) {
+pub fn size(rt: &impl Print, a: SizeAnswer) {
     match a {
-        SizeAnswer::Size(n) => named(b"size ", n),
-        SizeAnswer::Refused(x) => refusal(x),
+        SizeAnswer::Size(n) => named(rt, b"size ", n),
+        SizeAnswer::Refused(x) => refusal(rt, x),
     }
 }
 
-pub fn message_number(a: NumberAnswer) {
+pub fn message_number(rt: &impl Print, a: NumberAnswer) {
     match a {
         NumberAnswer::Number(x) => {
-            text(b"number ");
-            io::print_decimal(STDOUT_FILENO, x);
+            text(rt, b"number ");
+            let _ = rt.print(x);
         }
-        NumberAnswer::Refused(x) => refusal(x),
+        NumberAnswer::Refused(x) => refusal(rt, x),
     }
 }
 
-pub fn write(a: WriteAnswer, out: &[u8]) {
+pub fn write(rt: &impl Print, a: WriteAnswer, out: &[u8]) {
     match a {
-        WriteAnswer::Written => text(b"written"),
-        WriteAnswer::Refused(x) => refusal(x),
+        WriteAnswer::Written => text(rt, b"written"),
+        WriteAnswer::Refused(x) => refusal(rt, x),
     }
-    buffer(out);
+    buffer(rt, out);
 }
 
-pub fn read(a: ReadAnswer, out: &[u8]) {
+pub fn read(rt: &impl Print, a: ReadAnswer, out: &[u8]) {
     match a {
         ReadAnswer::Count { count, tried } => {
-            named(b"count ", count);
-            named(b" tried ", tried);
+            named(rt, b"count ", count);
+            named(rt, b" tried ", tried);
         }
-        ReadAnswer::Refused(x) => refusal(x),
+        ReadAnswer::Refused(x) => refusal(rt, x),
     }
-    buffer(out);
+    buffer(rt, out);
 }
 
-pub fn outcome(a: Outcome, out: &[u8]) {
+pub fn outcome(rt: &impl Print, a: Outcome, out: &[u8]) {
     match a {
-        Outcome::Count(count) => named(b"count ", count),
-        Outcome::Refused(x) => refusal(x),
+        Outcome::Count(count) => named(rt, b"count ", count),
+        Outcome::Refused(x) => refusal(rt, x),
     }
-    buffer(out);
+    buffer(rt, out);
 }
 
-pub fn row(a: RowAnswer, out: &[u8]) {
+pub fn row(rt: &impl Print, a: RowAnswer, out: &[u8]) {
     match a {
         RowAnswer::Record(record) => {
             let entry = record.entry;
             let of_entry = record.outcome;
-            named(b"entry ", entry);
-            text(b" ");
-            outcome(of_entry, out);
+            named(rt, b"entry ", entry);
+            text(rt, b" ");
+            outcome(rt, of_entry, out);
         }
         RowAnswer::Refused(x) => {
-            refusal(x);
-            buffer(out);
+            refusal(rt, x);
+            buffer(rt, out);
         }
     }
 }
