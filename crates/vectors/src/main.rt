@@ -1,8 +1,11 @@
 // The examples of documents 000, 001 and 003 (docs/SOURCES.md). tests/expected.rs says what must be printed.
-use libc::STDIN_FILENO;
+#![tactic(auto)]
 
-fn main() {
-    let mut text = io::large_buffer();
-    let n = io::read_full(STDIN_FILENO, &mut text);
-    case_runner::run(&text[..n]);
+use std::io::{self, Read};
+
+fn main(rt: HostRuntime) -> io::Result<()> {
+    let mut text = Vec::new(rt.alloc());
+    rt.reader().take(65536).read_to_end(&mut text)?;
+    case_runner::run(&rt, &text);
+    Ok(())
 }
