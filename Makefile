@@ -1,17 +1,21 @@
-# make test runs the outside tests, then proves every crate, tries every must-fail edit and runs every program.
+LIBRARY = target/staticlib/libfingerkerf.a
+
+# make test proves every crate, tries every must-fail edit and runs every program, then runs the outside tests.
 .PHONY: test
-test: outside
-	rt fmt --check
-	rt ci
+test:
+	@tests/gate.sh
 
-# make run prints what cartlist makes of document 01's image.
+# make run prints what cartlist makes of document 01's image. It proves nothing.
 .PHONY: run
-run: target/bin/cartlist
-	target/bin/cartlist < samples/document
+run:
+	@cd crates/cartlist && rt try < ../../samples/document
 
+# The proved program. Where GATE is set, by tests/gate.sh, rt ci has just built it.
 .PHONY: target/bin/cartlist
 target/bin/cartlist:
-	rt check cartlist
+	mkdir -p target/bin
+	$(if $(GATE),,cd crates/cartlist && rt run < /dev/null)
+	cp crates/cartlist/out/cartlist $@
 
 # What is tested from outside: names in the documents, the boundary from Rust, C and Pascal, the sample images.
 .PHONY: outside
@@ -27,11 +31,13 @@ names:
 samples: target/bin/cartlist
 	for f in $$(sed -n 's/:$$//p' samples/EXPECTED); do echo $$f:; target/bin/cartlist < samples/$$f; done | diff samples/EXPECTED -
 
-# The library as other languages link it.
-LIBRARY = target/staticlib/libfingerkerf.a
+# make library writes the library as other languages link it.
+.PHONY: library
+library: $(LIBRARY)
+
 .PHONY: $(LIBRARY)
 $(LIBRARY):
-	rt staticlib fingerkerf
+	tests/library.sh $(GATE)
 	mkdir -p build
 
 RUST = rustc --edition 2021 -L native=target/staticlib -l static=fingerkerf

@@ -13,11 +13,12 @@ CRATES = os.path.join(ROOT, "crates")
 
 
 def text_of(place):
-    """All Rattle text of a file or a folder, and the labels of its must-fail edits."""
+    """All Rattle text of a file or a folder, and the labels of its must-fail edits; not what rt made of them, in out/."""
     if os.path.isfile(place):
         return open(place, encoding="utf-8").read()
     parts = []
-    for folder, _, files in os.walk(place):
+    for folder, folders, files in os.walk(place):
+        folders[:] = [name for name in folders if name != "out"]
         for name in files:
             if name.endswith((".rt", ".antt")):
                 parts.append(open(os.path.join(folder, name), encoding="utf-8").read())
@@ -49,14 +50,14 @@ def listed(names):
 
 def missing_names(line):
     missing = []
-    for path, names in re.findall(r"`([A-Za-z0-9_/.+]+)`: ([A-Za-z0-9_\-+, ]+)", line):
+    for path, names in re.findall(r"`([A-Za-z0-9_/.+]+)`: ([A-Za-z0-9_◌\-+, ]+)", line):
         place = find(path)
         if place is None:
             missing.append(path)
             continue
         text = text_of(place)
         for name in listed(names):
-            if not re.search(r"(?<![A-Za-z0-9_\-])" + re.escape(name) + r"(?![A-Za-z0-9_\-])", text):
+            if not re.search(r"(?<![A-Za-z0-9_◌\-])" + re.escape(name) + r"(?![A-Za-z0-9_◌\-])", text):
                 missing.append(path + ": " + name)
     return missing
 

@@ -1,6 +1,6 @@
 /* Fingerkerf: codes for cartridges of multilevel flash cells, after document 01, "Level codes for exercise cartridges".
  *
- * Link with libfingerkerf.a (`rt staticlib fingerkerf` writes it to target/staticlib; for x86-64 programs).
+ * Link with libfingerkerf.a (`make library` writes it to target/staticlib; for x86-64 programs).
  *
  * Every function takes byte slices as a pointer and a length; null with length 0 is an empty slice. Buffers of one call may not
  * overlap, except that two inputs may. Nothing is kept between calls: any number of threads may call at once, each with its own
