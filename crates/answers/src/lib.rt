@@ -78,42 +78,42 @@ pub fn refusal_number(x: Refusal) -> usize
 }
 
 // Testing a code, a stack or an image.
-#[derive(Drop)]
+#[derive(Clone, Copy)]
 pub enum TestAnswer {
     Accepted,
     Refused(Refusal),
 }
 
 // Writing to an output buffer.
-#[derive(Drop)]
+#[derive(Clone, Copy)]
 pub enum WriteAnswer {
     Written,
     Refused(Refusal),
 }
 
 // Reading a word of a code; tried is how many patterns were tried, up to the given one.
-#[derive(Drop)]
+#[derive(Clone, Copy)]
 pub enum ReadAnswer {
     Count { count: usize, tried: usize },
     Refused(Refusal),
 }
 
 // Reading a word of a stack, and what a row's record holds: a count or a refusal.
-#[derive(Drop)]
+#[derive(Clone, Copy)]
 pub enum Outcome {
     Count(usize),
     Refused(Refusal),
 }
 
 // A size that a caller needs before a call.
-#[derive(Drop)]
+#[derive(Clone, Copy)]
 pub enum SizeAnswer {
     Size(usize),
     Refused(Refusal),
 }
 
 // The number of a message.
-#[derive(Drop)]
+#[derive(Clone, Copy)]
 pub enum NumberAnswer {
     Number(u64),
     Refused(Refusal),

@@ -16,7 +16,7 @@ pub struct Layout {
 }
 
 // The symbols of the first `cells` cells, and how many bits the next symbol has.
-#[derive(Drop)]
+#[derive(Clone, Copy)]
 pub struct Taking {
     pub layout: Layout,
     pub cells: usize,

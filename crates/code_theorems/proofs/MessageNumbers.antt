@@ -11,7 +11,7 @@ use lib.ListN.{length, length-map}
 use lib.Seq.{ext_get_or}
 use borrow.Author.Tests.{eq-eqb, lt-ltb, le-ltb}
 use Rattle.definitions.specs.Words.{at, up_from, EachCell}
-use Rattle.definitions.specs.Answers.{Answer, given, refused, refuse◌when◌else◌, result, number}
+use Rattle.definitions.specs.Answers.{Answer, given, refuse◌when◌else◌, result, number}
 use Rattle.definitions.specs.Codes.{Code, data_cells}
 use Rattle.definitions.specs.Codewords.{Codeword}
 use Rattle.definitions.specs.Acceptance.{Accepted}

@@ -1,13 +1,13 @@
 -- Messages and the bytes that they travel as: one is got back from the other.
 use mathlib.Core.Path.{◌≡◌, refl, sym, ap, ◌∙◌, subst}
 use mathlib.Core.Bool.{Bool, true, false, cond, not}
-use mathlib.Core.List.{List, map}
+use mathlib.Core.List.{List}
 use mathlib.Core.Option.{none-ne-some}
 use Prim.Native.Nat.{ℕ, zero, suc, ◌+◌, ◌*◌, ◌-◌, ◌/◌, ◌%◌, ◌^◌, ◌≤◌, ◌<◌}
 use native.Mathlib.Nat.{zero-add}
 use native.Mathlib.Decide.{dec_lt}
 use native.Mathlib.Omega.{arith}
-use lib.Dec.{T, ltb, leb}
+use lib.Dec.{T, ltb}
 use lib.ListN.{length, take, drop, length-map, length-drop}
 use lib.Seq.{ext_get_or, get_or-take, get_or-drop, length-take-le}
 use borrow.Author.Tests.{lt-ltb, le-ltb, le-leb, lt-leb, eq-eqb, not-true, not-false}
@@ -16,7 +16,7 @@ use Rattle.definitions.specs.Answers.{given, refused, gives, refuse◌when◌els
 use Rattle.definitions.specs.Codes.{Code, data_cells}
 use Rattle.definitions.specs.Messages.{Message, symbols_fit, encode, message}
 use Rattle.definitions.specs.CodeOperations.{open_code, encode_code}
-use Rattle.definitions.specs.PowersOfTwo.{log2, is_power_of_two, bit, from_bits}
+use Rattle.definitions.specs.PowersOfTwo.{log2, is_power_of_two}
 use Rattle.definitions.specs.Packing.{radix, packable, width, bit_count, byte_count, bit_of, bytes_of, bits_of, symbol_at, is_leftover, pack, unpack}
 use Rattle.definitions.specs.Packing.{leftover_bits, Leftover, leftover_set, Bytes, MessageBytes, BytesOneToOne}
 use Rattle.definitions.specs.PackingOperations.{open_packable, pack_code, unpack_code, Packed, MessageTaken, Unpacked}

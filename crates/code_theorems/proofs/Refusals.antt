@@ -7,7 +7,7 @@ use native.Mathlib.Omega.{arith}
 use lib.Dec.{T, eqb, eqb→eq}
 use lib.ListN.{length}
 use Rattle.definitions.specs.Words.{all_below, EachCell}
-use Rattle.definitions.specs.Answers.{Answer, given, refused, refused_at, Result, refuse◌when◌else◌, result, after}
+use Rattle.definitions.specs.Answers.{Answer, given, refused, refused_at, Result, refuse◌when◌else◌, after}
 use Rattle.definitions.proofs.Tests.{and_left, and_right, below_each}
 use Rattle.definitions.proofs.Beginning.{operation}
 use Rattle.code_theorems.proofs.Deciding.{result-given}

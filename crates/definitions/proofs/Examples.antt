@@ -26,7 +26,7 @@ use Rattle.definitions.specs.StackOperations.{open_plane, open_planes, open_stac
 use Rattle.definitions.specs.Images.{contents_right, check_image, RowRecord, decode_row, read_row}
 use Rattle.definitions.specs.CartridgeLists.{lines_of}
 use Rattle.definitions.specs.Circular.{decode_circular}
-use Rattle.definitions.specs.Examples.{Example, opens, tests, testsStack, encodes, decodes, decodesStack, tries, numbers, circular, patterns}
+use Rattle.definitions.specs.Examples.{Example, opens, tests, tests_stack, encodes, decodes, decodes_stack, tries, numbers, circular, patterns}
 use Rattle.definitions.specs.Examples.{checks, reads_row, lists, writes, passes, Holds, AllHold, lent, R, F, S, H, K, G, table}
 use Rattle.definitions.specs.PowersOfTwo.{log2, is_power_of_two}
 use Rattle.definitions.specs.Labels.{gray, reversed, made_table, is_permutation}
@@ -106,10 +106,10 @@ tests_eq false false h = refl
 abbrev holds : Example → Bool
 holds (opens b a) = same_answer any_unit (after (open_code b) (λ p. given tt)) a
 holds (tests b a) = same_answer any_unit (test_code b) a
-holds (testsStack b a) = same_answer any_unit (test_stack b) a
+holds (tests_stack b a) = same_answer any_unit (test_stack b) a
 holds (encodes b s r) = same_result any_unit (encode_code b s (lent (length s))) r
 holds (decodes b y r) = same_result eqb (decode_code b y (lent (length y))) r
-holds (decodesStack b y r) = same_result eqb (decode_stack b y (lent (length y))) r
+holds (decodes_stack b y r) = same_result eqb (decode_stack b y (lent (length y))) r
 holds (tries b y a) = same_answer eqb (tried_code b y (lent (length y))) a
 holds (numbers b s a) = same_answer eqb (number_of_message b s) a
 holds (circular b y a) = same_answer same_pair (decode_circular (code_of b) y) a
@@ -123,10 +123,10 @@ holds (passes t e) = same_test_of t e
 shown : (x : Example) → T (holds x) → Holds x
 shown (opens b a) h = answers_eq any_unit units_eq (after (open_code b) (λ p. given tt)) a h
 shown (tests b a) h = answers_eq any_unit units_eq (test_code b) a h
-shown (testsStack b a) h = answers_eq any_unit units_eq (test_stack b) a h
+shown (tests_stack b a) h = answers_eq any_unit units_eq (test_stack b) a h
 shown (encodes b s r) h = results_eq any_unit units_eq (encode_code b s (lent (length s))) r h
 shown (decodes b y r) h = results_eq eqb eqb→eq (decode_code b y (lent (length y))) r h
-shown (decodesStack b y r) h = results_eq eqb eqb→eq (decode_stack b y (lent (length y))) r h
+shown (decodes_stack b y r) h = results_eq eqb eqb→eq (decode_stack b y (lent (length y))) r h
 shown (tries b y a) h = answers_eq eqb eqb→eq (tried_code b y (lent (length y))) a h
 shown (numbers b s a) h = answers_eq eqb eqb→eq (number_of_message b s) a h
 shown (circular b y a) h = answers_eq same_pair pairs_eq (decode_circular (code_of b) y) a h

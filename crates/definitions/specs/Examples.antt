@@ -14,9 +14,9 @@ use Rattle.definitions.specs.Circular.{decode_circular}
 -- an operation with its input, and what is expected of it
 pub data Example : Type 0 where
   opens : List ℕ → Answer (Unit {0}) → Example
-  tests testsStack : List ℕ → Answer (Unit {0}) → Example
+  tests tests_stack : List ℕ → Answer (Unit {0}) → Example
   encodes : List ℕ → List ℕ → Result (Unit {0}) → Example
-  decodes decodesStack : List ℕ → List ℕ → Result ℕ → Example
+  decodes decodes_stack : List ℕ → List ℕ → Result ℕ → Example
   tries : List ℕ → List ℕ → Answer ℕ → Example
   numbers : List ℕ → List ℕ → Answer ℕ → Example
   circular : List ℕ → List ℕ → Answer (ℕ × List ℕ) → Example
@@ -36,10 +36,10 @@ lent n = replicate n 9
 abbrev pub Holds : Example → Type 0
 Holds (opens b a) = after (open_code b) (λ p. given tt) ≡ a
 Holds (tests b a) = test_code b ≡ a
-Holds (testsStack b a) = test_stack b ≡ a
+Holds (tests_stack b a) = test_stack b ≡ a
 Holds (encodes b s r) = encode_code b s (lent (length s)) ≡ r
 Holds (decodes b y r) = decode_code b y (lent (length y)) ≡ r
-Holds (decodesStack b y r) = decode_stack b y (lent (length y)) ≡ r
+Holds (decodes_stack b y r) = decode_stack b y (lent (length y)) ≡ r
 Holds (tries b y a) = tried_code b y (lent (length y)) ≡ a
 Holds (numbers b s a) = number_of_message b s ≡ a
 Holds (circular b y a) = decode_circular (code_of b) y ≡ a
@@ -105,11 +105,11 @@ table =
     -- h
     ∷ decodes H (7 ∷ 7 ∷ 7 ∷ 7 ∷ []) (declined 11 4)
     -- i
-    ∷ decodesStack S (5 ∷ 5 ∷ 4 ∷ []) (back 1 (5 ∷ 5 ∷ 5 ∷ []))
+    ∷ decodes_stack S (5 ∷ 5 ∷ 4 ∷ []) (back 1 (5 ∷ 5 ∷ 5 ∷ []))
     -- j
-    ∷ decodesStack S (0 ∷ 1 ∷ 7 ∷ []) (back 2 (7 ∷ 7 ∷ 7 ∷ []))
+    ∷ decodes_stack S (0 ∷ 1 ∷ 7 ∷ []) (back 2 (7 ∷ 7 ∷ 7 ∷ []))
     -- k
-    ∷ decodesStack K (0 ∷ 1 ∷ []) (record { answer = refused_at 11 0; out = lent 2 })
+    ∷ decodes_stack K (0 ∷ 1 ∷ []) (record { answer = refused_at 11 0; out = lent 2 })
     -- l
     ∷ patterns (45 ∷ 0 ∷ 3 ∷ 3 ∷ 2 ∷ 2 ∷ []) 4051
     ∷ opens (45 ∷ 0 ∷ 3 ∷ 3 ∷ 2 ∷ 2 ∷ []) (given tt)

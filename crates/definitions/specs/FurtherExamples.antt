@@ -8,7 +8,7 @@ use Rattle.definitions.specs.CodeOperations.{recover_code}
 use Rattle.definitions.specs.PackingOperations.{pack_code, unpack_code}
 use Rattle.definitions.specs.MessageNumberOperations.{message_of_number}
 use Rattle.definitions.specs.StackOperations.{encode_stack, recover_stack}
-use Rattle.definitions.specs.Examples.{Example, tests, testsStack, encodes, decodes, tries, numbers, circular, checks, reads_row, lists, writes, passes}
+use Rattle.definitions.specs.Examples.{Example, tests, tests_stack, encodes, decodes, tries, numbers, circular, checks, reads_row, lists, writes, passes}
 use Rattle.definitions.specs.Examples.{lent, zeros, back, declined, R, F, S, H, K, G}
 
 -- no cell may rise
@@ -49,8 +49,8 @@ further =
     tests R (given tt)
     ∷ tests F (given tt)
     ∷ tests H (given tt)
-    ∷ testsStack S (given tt)
-    ∷ testsStack K (given tt)
+    ∷ tests_stack S (given tt)
+    ∷ tests_stack K (given tt)
     -- messages recovered, and a stack's written
     ∷ writes (recover_code R (3 ∷ 5 ∷ 3 ∷ 1 ∷ 1 ∷ []) (lent 5)) (back tt (3 ∷ 2 ∷ 1 ∷ 0 ∷ 0 ∷ []))
     ∷ writes (encode_stack S (1 ∷ 0 ∷ 1 ∷ []) (lent 3)) (back tt (5 ∷ 5 ∷ 5 ∷ []))

@@ -1,5 +1,5 @@
 -- The operations of packing, for every byte string and every buffer: document 01's "bytes, either way", with document 02's wish 3.
-use Rattle.std.specs.Prelude.{◌≡◌, Bool, true, ◌&&◌, not, ◌↔◌, List, ℕ, ◌%◌, eqb, length}
+use Rattle.std.specs.Prelude.{◌≡◌, ◌&&◌, not, ◌↔◌, List, ℕ, ◌%◌, eqb, length}
 use Rattle.std.proofs.Math.Option.{some}
 use Rattle.definitions.specs.Answers.{Answer, given, Result, gives, refuse◌when◌else◌, result, number, after}
 use Rattle.definitions.specs.Codes.{Code}

@@ -1,1 +1,2 @@
 // Document 01 as definitions: see specs/. There is no code here.
+#![tactic(auto)]

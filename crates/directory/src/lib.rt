@@ -7,7 +7,7 @@ ghost use Rattle.definitions.specs.Images.{sixteen_bits, entry_at, body_of, dire
 ghost use Rattle.directory.specs.Entries.{entry_as, Sixteen, InDirectory, InImage, Counted};
 
 // An entry: document 01's kind, reference, offset and length.
-#[derive(Drop)]
+#[derive(Clone, Copy)]
 pub struct Entry {
     pub kind: u8,
     pub reference: usize,

@@ -9,7 +9,7 @@ use answers::{NumberAnswer, Outcome, ReadAnswer, Refusal, SizeAnswer, TestAnswer
 
 // A count with how many patterns were tried, or a refusal's number; the plane goes with a stack's 11.
 #[repr(C)]
-#[derive(Drop)]
+#[derive(Clone, Copy)]
 pub struct Reading {
     pub number: usize,
     pub count: usize,
@@ -19,7 +19,7 @@ pub struct Reading {
 
 // A size, or a refusal's number.
 #[repr(C)]
-#[derive(Drop)]
+#[derive(Clone, Copy)]
 pub struct Size {
     pub number: usize,
     pub size: usize,
@@ -27,7 +27,7 @@ pub struct Size {
 
 // The number of a message as a value, or a refusal's number.
 #[repr(C)]
-#[derive(Drop)]
+#[derive(Clone, Copy)]
 pub struct Value {
     pub number: usize,
     pub value: u64,

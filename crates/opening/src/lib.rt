@@ -23,7 +23,7 @@ pub struct Parameters {
 }
 
 // An opened code or plane: its parameters, and where its matrix starts and ends in the lent description.
-#[derive(Drop)]
+#[derive(Clone, Copy)]
 pub enum Opened {
     Open {
         parameters: Parameters,

@@ -12,7 +12,7 @@ use row_reading::RowAnswer;
 
 // A plain refusal's number, all else 0; or 0 with the record: its entry, and a count or a refusal with its plane.
 #[repr(C)]
-#[derive(Drop)]
+#[derive(Clone, Copy)]
 pub struct RowNumbers {
     pub number: usize,
     pub entry: usize,

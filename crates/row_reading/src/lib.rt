@@ -13,14 +13,14 @@ ghost use Rattle.row_reading.specs.RowClauses.{WherePlanRow, WhereStackRow, Reco
 use answers::{Outcome, ReadAnswer, Refusal, TestAnswer};
 
 // A row's record.
-#[derive(Drop)]
+#[derive(Clone, Copy)]
 pub struct Record {
     pub entry: usize,
     pub outcome: Outcome,
 }
 
 // Reading a row entry: 15, 16 or 2, or the row's record.
-#[derive(Drop)]
+#[derive(Clone, Copy)]
 pub enum RowAnswer {
     Record(Record),
     Refused(Refusal),

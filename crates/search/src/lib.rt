@@ -29,7 +29,7 @@ enum Sought {
 }
 
 // The first pattern, its risen cells counted and how many were tried; or that there is none.
-#[derive(Drop)]
+#[derive(Clone, Copy)]
 pub enum Found {
     Pattern {
         risen: Risen,

@@ -21,7 +21,7 @@ use search::Found;
 use stack_opening::{Plane, StackOpened, StackParameters};
 
 // The levels once some planes are decoded: all, or those before a plane without a pattern.
-#[derive(Drop)]
+#[derive(Clone, Copy)]
 pub struct Decoded {
     pub levels: [u8; 64],
     pub planes: usize,

@@ -30,14 +30,14 @@ pub struct StackParameters {
     pub symbols: usize,
 }
 
-#[derive(Drop)]
+#[derive(Clone, Copy)]
 pub enum StackOpened {
     Open(StackParameters),
     Refused(Refusal),
 }
 
 // An opened stack with its planes: the first m of six.
-#[derive(Drop)]
+#[derive(Clone, Copy)]
 pub struct OpenedStack {
     pub answer: StackOpened,
     pub planes: [Plane; 6],

@@ -1,14 +1,14 @@
 -- Bytes by their bits, and the bits of a message: the symbol of cell i + 1 has w i bits, from bit w 0 + .. + w (i - 1) on.
 use mathlib.Core.Path.{◌≡◌, refl, sym, ap, ◌∙◌, subst}
 use mathlib.Core.Bool.{Bool, true, false}
-use mathlib.Core.List.{List, [], ◌++◌, map}
+use mathlib.Core.List.{List, map}
 use Prim.Native.Nat.{ℕ, zero, suc, ◌+◌, ◌*◌, ◌-◌, ◌/◌, ◌%◌, ◌^◌, ◌≤◌, ◌<◌}
-use native.Mathlib.Nat.{add_assoc, zero-add, mul_comm, mod-lt, div-add-mod', div-lt_iff_lt-mul, mod-eq_of_lt}
+use native.Mathlib.Nat.{add_assoc, zero-add, mul_comm, mod-lt, div-add-mod', div-lt_iff_lt-mul}
 use native.Mathlib.Decide.{dec_lt}
 use native.Mathlib.Omega.{arith}
 use lib.Arith.{digits_div, digits_mod}
 use lib.Dec.{T, eqb}
-use lib.ListN.{length, get_or, length-append, length-map, get_or-append}
+use lib.ListN.{length, length-append, length-map, get_or-append}
 use lib.Seq.{ext_get_or, get_or-append-add}
 use borrow.Author.Tests.{eq-eqb, ne_eqb}
 use Rattle.definitions.specs.Words.{at, sum_to, up_from, all_zero}

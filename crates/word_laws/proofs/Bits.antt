@@ -1,12 +1,11 @@
 -- Numbers and their bits.
 use mathlib.Core.Path.{◌≡◌, refl, ap, ◌∙◌}
-use Prim.Native.Nat.{ℕ, zero, suc, ◌+◌, ◌*◌, ◌-◌, ◌/◌, ◌%◌, ◌^◌, ◌≤◌, ◌<◌}
+use Prim.Native.Nat.{ℕ, zero, suc, ◌+◌, ◌*◌, ◌/◌, ◌%◌, ◌^◌, ◌≤◌, ◌<◌}
 use native.Mathlib.Nat.{add-zero, add-suc, add-mul, zero-mul, mul_comm, mul_assoc}
 use native.Mathlib.Nat.{pow-zero, pow-succ', mod-lt, mod-eq_of_lt, div-eq_of_lt, lt_of_lt_of_le}
 use native.Mathlib.Omega.{arith}
 use lib.Arith.{digits_div, digits_mod}
 use lib.Pow.{pow_mono, pow-add, shr-shr}
-use Rattle.definitions.specs.Words.{sum_to}
 use Rattle.definitions.specs.PowersOfTwo.{bit, from_bits}
 use Rattle.word_laws.proofs.Cells.{sum_same}
 use Rattle.word_laws.proofs.MixedRadix.{Digits, made-below, digit-made, made-digits}
