@@ -45,7 +45,7 @@ returns-then-not-all_below c =
     let opens : Opens c.args.body.now c.in-Open.p c.in-Open.start c.in-Open.end =
     opens_as c.args.body.now c.open-o.result c.open-o.ensures.opened c.in-Open.p c.in-Open.start c.in-Open.end c.in-Open.is
     c.open-o.ensures.placed in
-    let left : result (decode_rest c.args.received.now ((code_with c.in-Open.p ((part c.args.body.now c.in-Open.start c.in-Open.end)))))
+    let left : result (decode_rest c.args.received.now (code_with c.in-Open.p (part c.args.body.now c.in-Open.start c.in-Open.end)))
     c.args.out.now ≡ (decode_code c.args.body.now c.args.received.now c.args.out.now) =
     begun c.args.body.now c.args.received.now c.args.out.now (decode_rest c.args.received.now) c.in-Open.p c.in-Open.start c.in-Open.end opens
     c.buffers_fit.result c.buffers_fit.ensures (ap not c.if-not-buffers_fit.false) in
@@ -60,13 +60,13 @@ first_pattern-f-requires-clause-range c =
     let long : (length c.args.received.now ≡ c.in-Open.p.n) × (length c.args.out.now ≡ c.in-Open.p.n) =
     lengths _ _ _ _ c.buffers_fit.result c.buffers_fit.ensures (ap not c.if-not-buffers_fit.false) in
     let levels-pass : all_below c.in-Open.p.q c.args.received.now ≡ true = sym c.all_below.ensures ∙ c.if-not-all_below.false in
-    let received : Received c.in-Open.p ((part c.args.body.now c.in-Open.start c.in-Open.end)) c.args.received.now = record {
+    let received : Received c.in-Open.p (part c.args.body.now c.in-Open.start c.in-Open.end) c.args.received.now = record {
       ready = opens.place.ready;
       long = long.0;
       levels = below_each c.in-Open.p.q c.args.received.now (subst T (sym levels-pass) tt);
     } in
     let r = received in
-    syndrome-range c.in-Open.p ((part c.args.body.now c.in-Open.start c.in-Open.end)) c.args.received.now
+    syndrome-range c.in-Open.p (part c.args.body.now c.in-Open.start c.in-Open.end) c.args.received.now
     c.syndrome-s.result r.ready r.long c.syndrome-s.ensures
 
 pub first_pattern-f-requires-clause-word : goal.first_pattern-f-requires-clause-word
@@ -77,7 +77,7 @@ first_pattern-f-requires-clause-word c =
     let long : (length c.args.received.now ≡ c.in-Open.p.n) × (length c.args.out.now ≡ c.in-Open.p.n) =
     lengths _ _ _ _ c.buffers_fit.result c.buffers_fit.ensures (ap not c.if-not-buffers_fit.false) in
     let levels-pass : all_below c.in-Open.p.q c.args.received.now ≡ true = sym c.all_below.ensures ∙ c.if-not-all_below.false in
-    let received : Received c.in-Open.p ((part c.args.body.now c.in-Open.start c.in-Open.end)) c.args.received.now = record {
+    let received : Received c.in-Open.p (part c.args.body.now c.in-Open.start c.in-Open.end) c.args.received.now = record {
       ready = opens.place.ready;
       long = long.0;
       levels = below_each c.in-Open.p.q c.args.received.now (subst T (sym levels-pass) tt);
@@ -93,34 +93,34 @@ returns-in-Pattern c =
     c.open-o.ensures.placed in
     let long : (length c.args.received.now ≡ c.in-Open.p.n) × (length c.args.out.now ≡ c.in-Open.p.n) =
     lengths _ _ _ _ c.buffers_fit.result c.buffers_fit.ensures (ap not c.if-not-buffers_fit.false) in
-    let left : result (decode_rest c.args.received.now ((code_with c.in-Open.p ((part c.args.body.now c.in-Open.start c.in-Open.end)))))
+    let left : result (decode_rest c.args.received.now (code_with c.in-Open.p (part c.args.body.now c.in-Open.start c.in-Open.end)))
     c.args.out.now ≡ (decode_code c.args.body.now c.args.received.now c.args.out.now) =
     begun c.args.body.now c.args.received.now c.args.out.now (decode_rest c.args.received.now) c.in-Open.p c.in-Open.start c.in-Open.end opens
     c.buffers_fit.result c.buffers_fit.ensures (ap not c.if-not-buffers_fit.false) in
     let levels-pass : all_below c.in-Open.p.q c.args.received.now ≡ true = sym c.all_below.ensures ∙ c.if-not-all_below.false in
-    let decoding : result (decode ((code_with c.in-Open.p ((part c.args.body.now c.in-Open.start c.in-Open.end)))) c.args.received.now) c.args.out.now
+    let decoding : result (decode (code_with c.in-Open.p (part c.args.body.now c.in-Open.start c.in-Open.end)) c.args.received.now) c.args.out.now
     ≡ (decode_code c.args.body.now c.args.received.now c.args.out.now) = (let e = levels-pass in rw e) ∙ left in
     let test : ◌≡◌ {A = List ℕ → Bool}
-    (test_of true (((code_with c.in-Open.p ((part c.args.body.now c.in-Open.start c.in-Open.end))))) c.syndrome-s.result c.args.received.now)
-    (fits (((code_with c.in-Open.p ((part c.args.body.now c.in-Open.start c.in-Open.end))))) c.args.received.now) =
-    tests_fit (((code_with c.in-Open.p ((part c.args.body.now c.in-Open.start c.in-Open.end))))) c.args.received.now c.syndrome-s.result
+    (test_of true (code_with c.in-Open.p (part c.args.body.now c.in-Open.start c.in-Open.end)) c.syndrome-s.result c.args.received.now)
+    (fits (code_with c.in-Open.p (part c.args.body.now c.in-Open.start c.in-Open.end)) c.args.received.now) =
+    tests_fit (code_with c.in-Open.p (part c.args.body.now c.in-Open.start c.in-Open.end)) c.args.received.now c.syndrome-s.result
     c.syndrome-s.ensures in
-    let found : found_word (((code_with c.in-Open.p ((part c.args.body.now c.in-Open.start c.in-Open.end))))).n c.first_pattern-f.result
-    ≡ first (fits (((code_with c.in-Open.p ((part c.args.body.now c.in-Open.start c.in-Open.end))))) c.args.received.now)
-    (patterns_of (((code_with c.in-Open.p ((part c.args.body.now c.in-Open.start c.in-Open.end)))))) =
+    let found : found_word (code_with c.in-Open.p (part c.args.body.now c.in-Open.start c.in-Open.end)).n c.first_pattern-f.result
+    ≡ first (fits (code_with c.in-Open.p (part c.args.body.now c.in-Open.start c.in-Open.end)) c.args.received.now)
+    (patterns_of (code_with c.in-Open.p (part c.args.body.now c.in-Open.start c.in-Open.end))) =
     c.first_pattern-f.ensures.found
-    ∙ ap (λ (f : List ℕ → Bool). first f (patterns_of (((code_with c.in-Open.p ((part c.args.body.now c.in-Open.start c.in-Open.end))))))) test in
-    let counts : CountsOf (((code_with c.in-Open.p ((part c.args.body.now c.in-Open.start c.in-Open.end)))))
-    (fits (((code_with c.in-Open.p ((part c.args.body.now c.in-Open.start c.in-Open.end))))) c.args.received.now) c.first_pattern-f.result =
-    subst (λ (f : List ℕ → Bool). CountsOf (((code_with c.in-Open.p ((part c.args.body.now c.in-Open.start c.in-Open.end))))) f
+    ∙ ap (λ (f : List ℕ → Bool). first f (patterns_of (code_with c.in-Open.p (part c.args.body.now c.in-Open.start c.in-Open.end)))) test in
+    let counts : CountsOf (code_with c.in-Open.p (part c.args.body.now c.in-Open.start c.in-Open.end))
+    (fits (code_with c.in-Open.p (part c.args.body.now c.in-Open.start c.in-Open.end)) c.args.received.now) c.first_pattern-f.result =
+    subst (λ (f : List ℕ → Bool). CountsOf (code_with c.in-Open.p (part c.args.body.now c.in-Open.start c.in-Open.end)) f
     c.first_pattern-f.result) test c.first_pattern-f.ensures.counts in
     count_clauses c.args.body.now c.args.received.now c.args.out.now c.in-Pattern.count c.in-Pattern.tried c.store_decoded.new.out
-    (when_found ((code_with c.in-Open.p ((part c.args.body.now c.in-Open.start c.in-Open.end)))) c.args.received.now c.args.out.now
+    (when_found (code_with c.in-Open.p (part c.args.body.now c.in-Open.start c.in-Open.end)) c.args.received.now c.args.out.now
     c.first_pattern-f.result found c.in-Pattern.risen c.in-Pattern.count c.in-Pattern.tried c.store_decoded.new.out c.in-Pattern.is
     counts
     (c.store_decoded.ensures ∙ ap (λ (n : ℕ). subtract c.args.received.now (word_of n c.in-Pattern.risen)) long.0)
     ∙ decoding)
-    (tried-first c.args.body.now ((code_with c.in-Open.p ((part c.args.body.now c.in-Open.start c.in-Open.end)))) c.args.received.now
+    (tried-first c.args.body.now (code_with c.in-Open.p (part c.args.body.now c.in-Open.start c.in-Open.end)) c.args.received.now
     c.first_pattern-f.result c.in-Pattern.risen c.in-Pattern.count c.in-Pattern.tried opens.code c.in-Pattern.is counts)
 
 pub returns-in-Nothing : goal.returns-in-Nothing
@@ -129,23 +129,23 @@ returns-in-Nothing c =
     let opens : Opens c.args.body.now c.in-Open.p c.in-Open.start c.in-Open.end =
     opens_as c.args.body.now c.open-o.result c.open-o.ensures.opened c.in-Open.p c.in-Open.start c.in-Open.end c.in-Open.is
     c.open-o.ensures.placed in
-    let left : result (decode_rest c.args.received.now ((code_with c.in-Open.p ((part c.args.body.now c.in-Open.start c.in-Open.end)))))
+    let left : result (decode_rest c.args.received.now (code_with c.in-Open.p (part c.args.body.now c.in-Open.start c.in-Open.end)))
     c.args.out.now ≡ (decode_code c.args.body.now c.args.received.now c.args.out.now) =
     begun c.args.body.now c.args.received.now c.args.out.now (decode_rest c.args.received.now) c.in-Open.p c.in-Open.start c.in-Open.end opens
     c.buffers_fit.result c.buffers_fit.ensures (ap not c.if-not-buffers_fit.false) in
     let levels-pass : all_below c.in-Open.p.q c.args.received.now ≡ true = sym c.all_below.ensures ∙ c.if-not-all_below.false in
-    let decoding : result (decode ((code_with c.in-Open.p ((part c.args.body.now c.in-Open.start c.in-Open.end)))) c.args.received.now) c.args.out.now
+    let decoding : result (decode (code_with c.in-Open.p (part c.args.body.now c.in-Open.start c.in-Open.end)) c.args.received.now) c.args.out.now
     ≡ (decode_code c.args.body.now c.args.received.now c.args.out.now) = (let e = levels-pass in rw e) ∙ left in
     let test : ◌≡◌ {A = List ℕ → Bool}
-    (test_of true (((code_with c.in-Open.p ((part c.args.body.now c.in-Open.start c.in-Open.end))))) c.syndrome-s.result c.args.received.now)
-    (fits (((code_with c.in-Open.p ((part c.args.body.now c.in-Open.start c.in-Open.end))))) c.args.received.now) =
-    tests_fit (((code_with c.in-Open.p ((part c.args.body.now c.in-Open.start c.in-Open.end))))) c.args.received.now c.syndrome-s.result
+    (test_of true (code_with c.in-Open.p (part c.args.body.now c.in-Open.start c.in-Open.end)) c.syndrome-s.result c.args.received.now)
+    (fits (code_with c.in-Open.p (part c.args.body.now c.in-Open.start c.in-Open.end)) c.args.received.now) =
+    tests_fit (code_with c.in-Open.p (part c.args.body.now c.in-Open.start c.in-Open.end)) c.args.received.now c.syndrome-s.result
     c.syndrome-s.ensures in
-    let found : found_word (((code_with c.in-Open.p ((part c.args.body.now c.in-Open.start c.in-Open.end))))).n c.first_pattern-f.result
-    ≡ first (fits (((code_with c.in-Open.p ((part c.args.body.now c.in-Open.start c.in-Open.end))))) c.args.received.now)
-    (patterns_of (((code_with c.in-Open.p ((part c.args.body.now c.in-Open.start c.in-Open.end)))))) =
+    let found : found_word (code_with c.in-Open.p (part c.args.body.now c.in-Open.start c.in-Open.end)).n c.first_pattern-f.result
+    ≡ first (fits (code_with c.in-Open.p (part c.args.body.now c.in-Open.start c.in-Open.end)) c.args.received.now)
+    (patterns_of (code_with c.in-Open.p (part c.args.body.now c.in-Open.start c.in-Open.end))) =
     c.first_pattern-f.ensures.found
-    ∙ ap (λ (f : List ℕ → Bool). first f (patterns_of (((code_with c.in-Open.p ((part c.args.body.now c.in-Open.start c.in-Open.end))))))) test in
+    ∙ ap (λ (f : List ℕ → Bool). first f (patterns_of (code_with c.in-Open.p (part c.args.body.now c.in-Open.start c.in-Open.end)))) test in
     refused_clauses c.args.body.now c.args.received.now c.args.out.now NoCodewordInReach
-    (when_nothing ((code_with c.in-Open.p ((part c.args.body.now c.in-Open.start c.in-Open.end)))) c.args.received.now c.args.out.now
+    (when_nothing (code_with c.in-Open.p (part c.args.body.now c.in-Open.start c.in-Open.end)) c.args.received.now c.args.out.now
     c.first_pattern-f.result found c.in-Nothing.is ∙ decoding)

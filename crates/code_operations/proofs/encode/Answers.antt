@@ -38,12 +38,12 @@ returns-then-not-symbols_fit c =
     let opens : Opens c.args.body.now c.in-Open.p c.in-Open.start c.in-Open.end =
     opens_as c.args.body.now c.open-o.result c.open-o.ensures.opened c.in-Open.p c.in-Open.start c.in-Open.end c.in-Open.is
     c.open-o.ensures.placed in
-    let left : result (encode_rest c.args.message.now ((code_with c.in-Open.p (part c.args.body.now c.in-Open.start c.in-Open.end)))) c.args.out.now
+    let left : result (encode_rest c.args.message.now (code_with c.in-Open.p (part c.args.body.now c.in-Open.start c.in-Open.end))) c.args.out.now
     ≡ (encode_code c.args.body.now c.args.message.now c.args.out.now) =
     begun c.args.body.now c.args.message.now c.args.out.now (encode_rest c.args.message.now) c.in-Open.p c.in-Open.start c.in-Open.end opens
     c.buffers_fit.result c.buffers_fit.ensures (ap not c.if-not-buffers_fit.false) in
-    let tested : symbols_fit ((code_with c.in-Open.p (part c.args.body.now c.in-Open.start c.in-Open.end))) c.args.message.now
-    ≡ c.symbols_fit.result = sym (c.symbols_fit.ensures ((code_with c.in-Open.p (part c.args.body.now c.in-Open.start c.in-Open.end))).A) in
+    let tested : symbols_fit (code_with c.in-Open.p (part c.args.body.now c.in-Open.start c.in-Open.end)) c.args.message.now
+    ≡ c.symbols_fit.result = sym (c.symbols_fit.ensures (code_with c.in-Open.p (part c.args.body.now c.in-Open.start c.in-Open.end)).A) in
     let both = encode_clauses c.args.body.now c.args.message.now c.args.out.now
     ((let e = tested ∙ c.if-not-symbols_fit.true in rw e) ∙ left) in record { result = both.0; one_codeword = both.1 }
 
@@ -51,11 +51,11 @@ pub store_codeword-requires-clause-fits : goal.store_codeword-requires-clause-fi
 store_codeword-requires-clause-fits c =
     let long : (length c.args.message.now ≡ c.in-Open.p.n) × (length c.args.out.now ≡ c.in-Open.p.n) =
     lengths _ _ _ _ c.buffers_fit.result c.buffers_fit.ensures (ap not c.if-not-buffers_fit.false) in
-    let tested : symbols_fit ((code_with c.in-Open.p (part c.args.body.now c.in-Open.start c.in-Open.end))) c.args.message.now
-    ≡ c.symbols_fit.result = sym (c.symbols_fit.ensures ((code_with c.in-Open.p (part c.args.body.now c.in-Open.start c.in-Open.end))).A) in
-    let passes : symbols_fit ((code_with c.in-Open.p (part c.args.body.now c.in-Open.start c.in-Open.end))) c.args.message.now ≡ true =
+    let tested : symbols_fit (code_with c.in-Open.p (part c.args.body.now c.in-Open.start c.in-Open.end)) c.args.message.now
+    ≡ c.symbols_fit.result = sym (c.symbols_fit.ensures (code_with c.in-Open.p (part c.args.body.now c.in-Open.start c.in-Open.end)).A) in
+    let passes : symbols_fit (code_with c.in-Open.p (part c.args.body.now c.in-Open.start c.in-Open.end)) c.args.message.now ≡ true =
     tested ∙ c.if-not-symbols_fit.false in
-    fits ((code_with c.in-Open.p (part c.args.body.now c.in-Open.start c.in-Open.end))) c.args.message.now
+    fits (code_with c.in-Open.p (part c.args.body.now c.in-Open.start c.in-Open.end)) c.args.message.now
     long.0 passes
 
 pub returns : goal.returns
@@ -64,13 +64,13 @@ returns c =
     let opens : Opens c.args.body.now c.in-Open.p c.in-Open.start c.in-Open.end =
     opens_as c.args.body.now c.open-o.result c.open-o.ensures.opened c.in-Open.p c.in-Open.start c.in-Open.end c.in-Open.is
     c.open-o.ensures.placed in
-    let left : result (encode_rest c.args.message.now ((code_with c.in-Open.p (part c.args.body.now c.in-Open.start c.in-Open.end)))) c.args.out.now
+    let left : result (encode_rest c.args.message.now (code_with c.in-Open.p (part c.args.body.now c.in-Open.start c.in-Open.end))) c.args.out.now
     ≡ (encode_code c.args.body.now c.args.message.now c.args.out.now) =
     begun c.args.body.now c.args.message.now c.args.out.now (encode_rest c.args.message.now) c.in-Open.p c.in-Open.start c.in-Open.end opens
     c.buffers_fit.result c.buffers_fit.ensures (ap not c.if-not-buffers_fit.false) in
-    let tested : symbols_fit ((code_with c.in-Open.p (part c.args.body.now c.in-Open.start c.in-Open.end))) c.args.message.now
-    ≡ c.symbols_fit.result = sym (c.symbols_fit.ensures ((code_with c.in-Open.p (part c.args.body.now c.in-Open.start c.in-Open.end))).A) in
-    let passes : symbols_fit ((code_with c.in-Open.p (part c.args.body.now c.in-Open.start c.in-Open.end))) c.args.message.now ≡ true =
+    let tested : symbols_fit (code_with c.in-Open.p (part c.args.body.now c.in-Open.start c.in-Open.end)) c.args.message.now
+    ≡ c.symbols_fit.result = sym (c.symbols_fit.ensures (code_with c.in-Open.p (part c.args.body.now c.in-Open.start c.in-Open.end)).A) in
+    let passes : symbols_fit (code_with c.in-Open.p (part c.args.body.now c.in-Open.start c.in-Open.end)) c.args.message.now ≡ true =
     tested ∙ c.if-not-symbols_fit.false in
     let both = encode_clauses c.args.body.now c.args.message.now c.args.out.now
     (ap (leaves (given tt)) c.store_codeword.ensures

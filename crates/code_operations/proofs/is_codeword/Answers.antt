@@ -10,20 +10,20 @@ use Rattle.code_operations.proofs.is_codeword.Goals as goal
 
 pub returns-then-not-all_below : goal.returns-then-not-all_below
 returns-then-not-all_below c =
-    let tested : all_below (ceiling ((code_with c.args.p c.args.matrix.now)))
-    (drop (data_cells ((code_with c.args.p c.args.matrix.now))) c.args.word.now) ≡ c.all_below.result =
+    let tested : all_below (ceiling (code_with c.args.p c.args.matrix.now))
+    (drop (data_cells (code_with c.args.p c.args.matrix.now)) c.args.word.now) ≡ c.all_below.result =
     sym (c.all_below.ensures ∙ ap₂ all_below c.ceiling.ensures.0
-    (take_rest (data_cells ((code_with c.args.p c.args.matrix.now))) c.args.word.now)) in
+    (take_rest (data_cells (code_with c.args.p c.args.matrix.now)) c.args.word.now)) in
     sym
-    (too_high ((code_with c.args.p c.args.matrix.now)) c.args.word.now c.requires.received.0 c.requires.received.1 (tested ∙ c.if-not-all_below.true))
+    (too_high (code_with c.args.p c.args.matrix.now) c.args.word.now c.requires.received.0 c.requires.received.1 (tested ∙ c.if-not-all_below.true))
 
 pub returns : goal.returns
 returns c =
-    let tested : all_below (ceiling ((code_with c.args.p c.args.matrix.now)))
-    (drop (data_cells ((code_with c.args.p c.args.matrix.now))) c.args.word.now) ≡ c.all_below.result =
+    let tested : all_below (ceiling (code_with c.args.p c.args.matrix.now))
+    (drop (data_cells (code_with c.args.p c.args.matrix.now)) c.args.word.now) ≡ c.all_below.result =
     sym (c.all_below.ensures ∙ ap₂ all_below c.ceiling.ensures.0
-    (take_rest (data_cells ((code_with c.args.p c.args.matrix.now))) c.args.word.now)) in
+    (take_rest (data_cells (code_with c.args.p c.args.matrix.now)) c.args.word.now)) in
     c.has_zero_syndrome.ensures
     ∙ sym
-    (zero_decides ((code_with c.args.p c.args.matrix.now)) c.args.word.now c.requires.received.0 c.requires.received.1
+    (zero_decides (code_with c.args.p c.args.matrix.now) c.args.word.now c.requires.received.0 c.requires.received.1
     (tested ∙ c.if-not-all_below.false))

@@ -40,7 +40,7 @@ returns-then-not-all_below c =
     let opens : Opens c.args.body.now c.in-Open.p c.in-Open.start c.in-Open.end =
     opens_as c.args.body.now c.open-o.result c.open-o.ensures.opened c.in-Open.p c.in-Open.start c.in-Open.end c.in-Open.is
     c.open-o.ensures.placed in
-    let left : result (recover_rest c.args.word.now ((code_with c.in-Open.p (part c.args.body.now c.in-Open.start c.in-Open.end)))) c.args.out.now
+    let left : result (recover_rest c.args.word.now (code_with c.in-Open.p (part c.args.body.now c.in-Open.start c.in-Open.end))) c.args.out.now
     ≡ (recover_code c.args.body.now c.args.word.now c.args.out.now) =
     begun c.args.body.now c.args.word.now c.args.out.now (recover_rest c.args.word.now) c.in-Open.p c.in-Open.start c.in-Open.end opens
     c.buffers_fit.result c.buffers_fit.ensures (ap not c.if-not-buffers_fit.false) in let both =
@@ -60,12 +60,12 @@ returns-then-not-is_codeword c =
     let opens : Opens c.args.body.now c.in-Open.p c.in-Open.start c.in-Open.end =
     opens_as c.args.body.now c.open-o.result c.open-o.ensures.opened c.in-Open.p c.in-Open.start c.in-Open.end c.in-Open.is
     c.open-o.ensures.placed in
-    let left : result (recover_rest c.args.word.now ((code_with c.in-Open.p (part c.args.body.now c.in-Open.start c.in-Open.end)))) c.args.out.now
+    let left : result (recover_rest c.args.word.now (code_with c.in-Open.p (part c.args.body.now c.in-Open.start c.in-Open.end))) c.args.out.now
     ≡ (recover_code c.args.body.now c.args.word.now c.args.out.now) =
     begun c.args.body.now c.args.word.now c.args.out.now (recover_rest c.args.word.now) c.in-Open.p c.in-Open.start c.in-Open.end opens
     c.buffers_fit.result c.buffers_fit.ensures (ap not c.if-not-buffers_fit.false) in
     let levels-pass : all_below c.in-Open.p.q c.args.word.now ≡ true = sym c.all_below.ensures ∙ c.if-not-all_below.false in
-    let tested : is_codeword ((code_with c.in-Open.p (part c.args.body.now c.in-Open.start c.in-Open.end))) c.args.word.now ≡ c.is_codeword.result =
+    let tested : is_codeword (code_with c.in-Open.p (part c.args.body.now c.in-Open.start c.in-Open.end)) c.args.word.now ≡ c.is_codeword.result =
     sym c.is_codeword.ensures in
     let both = recover_clauses c.args.body.now c.args.word.now c.args.out.now
     ((let e = levels-pass in let f = tested ∙ c.if-not-is_codeword.true in rw (e, f)) ∙ left) in record { result = both.0; recovered = both.1 }
@@ -76,13 +76,13 @@ returns c =
     let opens : Opens c.args.body.now c.in-Open.p c.in-Open.start c.in-Open.end =
     opens_as c.args.body.now c.open-o.result c.open-o.ensures.opened c.in-Open.p c.in-Open.start c.in-Open.end c.in-Open.is
     c.open-o.ensures.placed in
-    let left : result (recover_rest c.args.word.now ((code_with c.in-Open.p (part c.args.body.now c.in-Open.start c.in-Open.end)))) c.args.out.now
+    let left : result (recover_rest c.args.word.now (code_with c.in-Open.p (part c.args.body.now c.in-Open.start c.in-Open.end))) c.args.out.now
     ≡ (recover_code c.args.body.now c.args.word.now c.args.out.now) =
     begun c.args.body.now c.args.word.now c.args.out.now (recover_rest c.args.word.now) c.in-Open.p c.in-Open.start c.in-Open.end opens
     c.buffers_fit.result c.buffers_fit.ensures (ap not c.if-not-buffers_fit.false) in
     let levels-pass : all_below c.in-Open.p.q c.args.word.now ≡ true = sym c.all_below.ensures ∙ c.if-not-all_below.false in
-    let tested : is_codeword ((code_with c.in-Open.p (part c.args.body.now c.in-Open.start c.in-Open.end))) c.args.word.now ≡ c.is_codeword.result =
+    let tested : is_codeword (code_with c.in-Open.p (part c.args.body.now c.in-Open.start c.in-Open.end)) c.args.word.now ≡ c.is_codeword.result =
     sym c.is_codeword.ensures in
     let both = recover_clauses c.args.body.now c.args.word.now c.args.out.now
-    (ap (leaves (given tt)) (c.store_message.ensures ((code_with c.in-Open.p (part c.args.body.now c.in-Open.start c.in-Open.end))).A)
+    (ap (leaves (given tt)) (c.store_message.ensures (code_with c.in-Open.p (part c.args.body.now c.in-Open.start c.in-Open.end)).A)
     ∙ (let e = levels-pass in let f = tested ∙ c.if-not-is_codeword.false in rw (e, f)) ∙ left) in record { result = both.0; recovered = both.1 }

@@ -27,7 +27,7 @@ pub bounds-body-0 : goal.bounds-body-0
 bounds-body-0 c =
     let reference-is : reference_of c.args.image.now c.args.k ≡ c.entry_at-row.result.reference =
     ap (λ (u : images.Entry). u.reference) (sym c.entry_at-row.ensures.0) in
-    let body_is : c.body-body.result.now ≡ body_of c.args.image.now ((reference_of c.args.image.now c.args.k)) =
+    let body_is : c.body-body.result.now ≡ body_of c.args.image.now (reference_of c.args.image.now c.args.k) =
     c.body-body.ensures ∙ ap (body_of c.args.image.now) (sym reference-is) in
     omega (arith, (row_first c.args.image.now c.args.k c.requires).there, ap length body_is)
 
@@ -35,7 +35,7 @@ pub returns : goal.returns
 returns c =
     let reference-is : reference_of c.args.image.now c.args.k ≡ c.entry_at-row.result.reference =
     ap (λ (u : images.Entry). u.reference) (sym c.entry_at-row.ensures.0) in
-    let body_is : c.body-body.result.now ≡ body_of c.args.image.now ((reference_of c.args.image.now c.args.k)) =
+    let body_is : c.body-body.result.now ≡ body_of c.args.image.now (reference_of c.args.image.now c.args.k) =
     c.body-body.ensures ∙ ap (body_of c.args.image.now) (sym reference-is) in
     let w : c.wide.result ≡ at (body_of c.args.image.now (reference_of c.args.image.now c.args.k)) 0 =
     c.wide.ensures.0 ∙ ap (λ (u : List ℕ). at u 0) body_is in

@@ -29,11 +29,11 @@ unfolding message_of_number
 returns-then-product-x c =
     let begins : Begins c.args.body.now (length c.args.out.now) c.in-Open.p c.in-Open.product =
     subst (Begun c.args.body.now (length c.args.out.now)) c.in-Open.is c.open_numbered-o.ensures in
-    let left : result (refuse 18 when not (ltb c.args.x (radix_product ((code_with c.in-Open.p begins.matrix)))) else given
-    (tt, number_message ((code_with c.in-Open.p begins.matrix)) c.args.x)) c.args.out.now ≡ message_of_number c.args.body.now c.args.x
+    let left : result (refuse 18 when not (ltb c.args.x (radix_product (code_with c.in-Open.p begins.matrix))) else given
+    (tt, number_message (code_with c.in-Open.p begins.matrix) c.args.x)) c.args.out.now ≡ message_of_number c.args.body.now c.args.x
     c.args.out.now = (let e = begins.code in rw e) in
     let both = message_clauses c.args.body.now c.args.x c.args.out.now
-    ((let h = le-ltb c.args.x (radix_product ((code_with c.in-Open.p begins.matrix)))
+    ((let h = le-ltb c.args.x (radix_product (code_with c.in-Open.p begins.matrix))
     (subst (λ (y : ℕ). y ≤ c.args.x) begins.product_is (omega arith)) in rw h) ∙ left) in record { result = both.0; made = both.1 }
 
 pub returns : goal.returns
@@ -41,10 +41,10 @@ unfolding message_of_number
 returns c =
     let begins : Begins c.args.body.now (length c.args.out.now) c.in-Open.p c.in-Open.product =
     subst (Begun c.args.body.now (length c.args.out.now)) c.in-Open.is c.open_numbered-o.ensures in
-    let left : result (refuse 18 when not (ltb c.args.x (radix_product ((code_with c.in-Open.p begins.matrix)))) else given
-    (tt, number_message ((code_with c.in-Open.p begins.matrix)) c.args.x)) c.args.out.now ≡ message_of_number c.args.body.now c.args.x
+    let left : result (refuse 18 when not (ltb c.args.x (radix_product (code_with c.in-Open.p begins.matrix))) else given
+    (tt, number_message (code_with c.in-Open.p begins.matrix) c.args.x)) c.args.out.now ≡ message_of_number c.args.body.now c.args.x
     c.args.out.now = (let e = begins.code in rw e) in
     let both = message_clauses c.args.body.now c.args.x c.args.out.now
     (ap (leaves (given tt)) (c.store_symbols.ensures begins.matrix)
-    ∙ (let h = lt-ltb c.args.x (radix_product ((code_with c.in-Open.p begins.matrix)))
+    ∙ (let h = lt-ltb c.args.x (radix_product (code_with c.in-Open.p begins.matrix))
     (subst (λ (y : ℕ). c.args.x < y) begins.product_is (omega arith)) in rw h) ∙ left) in record { result = both.0; made = both.1 }

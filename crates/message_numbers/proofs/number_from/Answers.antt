@@ -14,7 +14,7 @@ pub overflow_mul-x : goal.overflow_mul-x
 overflow_mul-x c =
     let sum-next : c.loop-i.x + c.long.result * c.loop-i.place_value < 2 ^ 63 = (let (_, m, within) = c.requires.fits in
     rw (c.loop-i.invariant.1, c.loop-i.invariant.2, c.long.ensures.0)
-    (sum-within ((code_with c.args.p c.requires.fits.0)) (omega (arith, c.requires.radices.m-low)) c.requires.radices.m-high within c.args.message.now
+    (sum-within (code_with c.args.p c.requires.fits.0) (omega (arith, c.requires.radices.m-low)) c.requires.radices.m-high within c.args.message.now
     m c.loop-i.i (omega (arith, m.long)))) in
     omega (arith, sum-next)
 
@@ -22,7 +22,7 @@ pub overflow_add-x : goal.overflow_add-x
 overflow_add-x c =
     let sum-next : c.loop-i.x + c.long.result * c.loop-i.place_value < 2 ^ 63 = (let (_, m, within) = c.requires.fits in
     rw (c.loop-i.invariant.1, c.loop-i.invariant.2, c.long.ensures.0)
-    (sum-within ((code_with c.args.p c.requires.fits.0)) (omega (arith, c.requires.radices.m-low)) c.requires.radices.m-high within c.args.message.now
+    (sum-within (code_with c.args.p c.requires.fits.0) (omega (arith, c.requires.radices.m-low)) c.requires.radices.m-high within c.args.message.now
     m c.loop-i.i (omega (arith, m.long)))) in
     omega (arith, sum-next)
 
@@ -30,7 +30,7 @@ pub overflow_mul-place_value : goal.overflow_mul-place_value
 overflow_mul-place_value c =
     let place-next : c.loop-i.place_value * c.radix_at-place_value.result ≤ 2 ^ 63 = (let (_, m, within) = c.requires.fits in
     rw (c.loop-i.invariant.2, c.radix_at-place_value.ensures.0 [])
-    (value-within ((code_with c.args.p c.requires.fits.0)) (omega (arith, c.requires.radices.m-low)) c.requires.radices.m-high within c.loop-i.i
+    (value-within (code_with c.args.p c.requires.fits.0) (omega (arith, c.requires.radices.m-low)) c.requires.radices.m-high within c.loop-i.i
     (omega (arith, m.long)))) in
     omega (arith, place-next)
 

@@ -19,7 +19,7 @@ returns-then-symbols-p c =
     let opens : Opens c.args.body.now c.in-Open.p c.in-Open.start c.in-Open.end =
     opens_as c.args.body.now c.open-o.result c.open-o.ensures.opened c.in-Open.p c.in-Open.start c.in-Open.end c.in-Open.is
     c.open-o.ensures.placed in
-    begin_length c.args.body.now c.args.symbols ((code_with c.in-Open.p ((part c.args.body.now c.in-Open.start c.in-Open.end)))) opens.code
+    begin_length c.args.body.now c.args.symbols (code_with c.in-Open.p (part c.args.body.now c.in-Open.start c.in-Open.end)) opens.code
     c.if-symbols-p.true
 
 pub returns : goal.returns
@@ -28,17 +28,17 @@ returns c =
     opens_as c.args.body.now c.open-o.result c.open-o.ensures.opened c.in-Open.p c.in-Open.start c.in-Open.end c.in-Open.is
     c.open-o.ensures.placed in
     let product_is : c.radix_product-product.result
-    ≡ stopped (radix_product ((code_with c.in-Open.p ((part c.args.body.now c.in-Open.start c.in-Open.end))))) =
-    c.radix_product-product.ensures ((part c.args.body.now c.in-Open.start c.in-Open.end)) in
+    ≡ stopped (radix_product (code_with c.in-Open.p (part c.args.body.now c.in-Open.start c.in-Open.end))) =
+    c.radix_product-product.ensures (part c.args.body.now c.in-Open.start c.in-Open.end) in
     let e = product_is in
-    let h = below (radix_product ((code_with c.in-Open.p ((part c.args.body.now c.in-Open.start c.in-Open.end)))))
+    let h = below (radix_product (code_with c.in-Open.p (part c.args.body.now c.in-Open.start c.in-Open.end)))
     (subst (λ (y : ℕ). y ≤ 2 ^ 63) e (omega arith)) in
     record {
       matrix = (part c.args.body.now c.in-Open.start c.in-Open.end);
-      code = begins c.args.body.now ((code_with c.in-Open.p ((part c.args.body.now c.in-Open.start c.in-Open.end)))) opens.code h c.args.symbols
+      code = begins c.args.body.now (code_with c.in-Open.p (part c.args.body.now c.in-Open.start c.in-Open.end)) opens.code h c.args.symbols
           c.if-symbols-p.false;
       radices = radices opens.place;
       long = c.if-symbols-p.false;
-      product_is = e ∙ sym (goes_on (radix_product ((code_with c.in-Open.p ((part c.args.body.now c.in-Open.start c.in-Open.end))))) h);
+      product_is = e ∙ sym (goes_on (radix_product (code_with c.in-Open.p (part c.args.body.now c.in-Open.start c.in-Open.end))) h);
       within = omega arith;
     }

@@ -12,12 +12,12 @@ use Rattle.message_numbers.proofs.store_symbols.Goals as goal
 
 pub loop-i-preserved : goal.loop-i-preserved
 loop-i-preserved c =
-    let same : length ((number_message (code c.args.p) c.args.x)) ≡ length c.args.out.now = number-long (code c.args.p) c.args.x ∙ sym c.requires.1 in
+    let same : length (number_message (code c.args.p) c.args.x) ≡ length c.args.out.now = number-long (code c.args.p) c.args.x ∙ sym c.requires.1 in
     let p = code c.args.p in
     let e = c.radix_at-k.ensures.0 [] in (
       search rules,
       simp length-set c.loop-i.invariant.1,
-      store_next ((number_message (code c.args.p) c.args.x)) c.args.out.now same c.loop-i.out c.loop-i.i _ c.loop-i.invariant.2 (omega arith)
+      store_next (number_message (code c.args.p) c.args.x) c.args.out.now same c.loop-i.out c.loop-i.i _ c.loop-i.invariant.2 (omega arith)
           (ap₂ ◌%◌ c.loop-i.invariant.3 e ∙ sym (number_at p c.args.x c.loop-i.i (omega (arith, c.requires.1)))),
       ap (λ (k : ℕ). c.loop-i.rest / k) e ∙ next_rest p c.args.x c.loop-i.i c.loop-i.rest c.loop-i.invariant.3,
     )
@@ -25,5 +25,5 @@ loop-i-preserved c =
 pub returns : goal.returns
 unfolding number_message
 returns c A =
-    let same : length ((number_message (code c.args.p) c.args.x)) ≡ length c.args.out.now = number-long (code c.args.p) c.args.x ∙ sym c.requires.1 in
-    store_end ((number_message (code c.args.p) c.args.x)) c.args.out.now same c.loop-i.out c.loop-i.i c.loop-i.invariant.2 (omega arith)
+    let same : length (number_message (code c.args.p) c.args.x) ≡ length c.args.out.now = number-long (code c.args.p) c.args.x ∙ sym c.requires.1 in
+    store_end (number_message (code c.args.p) c.args.x) c.args.out.now same c.loop-i.out c.loop-i.i c.loop-i.invariant.2 (omega arith)

@@ -21,7 +21,7 @@ Left from b p = open_code b ≡ from b p
 pub matrix_size-end-requires : goal.matrix_size-end-requires
 matrix_size-end-requires c =
     let fields-pass : (A : List ℕ) → in_range (code_with c.fields-p.result A) ≡ true = (λ A. sym (c.in_range.ensures A) ∙ c.if-not-in_range.false) in
-    let in-ranges : Ranges ((code_with c.fields-p.result (drop 6 c.args.body.now))) =
+    let in-ranges : Ranges (code_with c.fields-p.result (drop 6 c.args.body.now)) =
     ranges _ (let e = fields-pass (drop 6 c.args.body.now) in rw e tt) in
     let g = in-ranges in omega arith
 

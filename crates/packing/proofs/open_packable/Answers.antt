@@ -15,10 +15,10 @@ returns-then-not-packable-clause-opened c =
     let opens : Opens c.args.body.now c.in-Open.p c.in-Open.start c.in-Open.end =
     opens_as c.args.body.now c.open-o.result c.open-o.ensures.opened c.in-Open.p c.in-Open.start c.in-Open.end c.in-Open.is
     c.open-o.ensures.placed in
-    let tested : packable ((code_with c.in-Open.p ((part c.args.body.now c.in-Open.start c.in-Open.end)))) ≡ c.packable.result =
-    sym (c.packable.ensures ((part c.args.body.now c.in-Open.start c.in-Open.end))) in
+    let tested : packable (code_with c.in-Open.p (part c.args.body.now c.in-Open.start c.in-Open.end)) ≡ c.packable.result =
+    sym (c.packable.ensures (part c.args.body.now c.in-Open.start c.in-Open.end)) in
     let no = tested ∙ c.if-not-packable.true in
-    sym (begin_power c.args.body.now ((code_with c.in-Open.p ((part c.args.body.now c.in-Open.start c.in-Open.end)))) opens.code
+    sym (begin_power c.args.body.now (code_with c.in-Open.p (part c.args.body.now c.in-Open.start c.in-Open.end)) opens.code
     no)
 
 pub returns-clause-opened : goal.returns-clause-opened
@@ -26,8 +26,8 @@ returns-clause-opened c =
     let opens : Opens c.args.body.now c.in-Open.p c.in-Open.start c.in-Open.end =
     opens_as c.args.body.now c.open-o.result c.open-o.ensures.opened c.in-Open.p c.in-Open.start c.in-Open.end c.in-Open.is
     c.open-o.ensures.placed in
-    let tested : packable ((code_with c.in-Open.p ((part c.args.body.now c.in-Open.start c.in-Open.end)))) ≡ c.packable.result =
-    sym (c.packable.ensures ((part c.args.body.now c.in-Open.start c.in-Open.end))) in
+    let tested : packable (code_with c.in-Open.p (part c.args.body.now c.in-Open.start c.in-Open.end)) ≡ c.packable.result =
+    sym (c.packable.ensures (part c.args.body.now c.in-Open.start c.in-Open.end)) in
     let yes = tested ∙ c.if-not-packable.false in
-    sym (begin_given c.args.body.now ((code_with c.in-Open.p ((part c.args.body.now c.in-Open.start c.in-Open.end)))) opens.code
+    sym (begin_given c.args.body.now (code_with c.in-Open.p (part c.args.body.now c.in-Open.start c.in-Open.end)) opens.code
     yes)

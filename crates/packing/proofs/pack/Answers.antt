@@ -35,12 +35,12 @@ returns-then-not-buffers_fit c =
     opens_as c.args.body.now c.open_packable-o.result c.open_packable-o.ensures.opened c.in-Open.p c.in-Open.start c.in-Open.end c.in-Open.is
     c.open_packable-o.ensures.placed in
     let laid : c.layout-l.result ≡ layout_of c.in-Open.p = c.layout-l.ensures.0 in
-    let counted : c.byte_count.result ≡ byte_count ((code_with c.in-Open.p ((part c.args.body.now c.in-Open.start c.in-Open.end)))) =
-    count_is c.in-Open.p ((part c.args.body.now c.in-Open.start c.in-Open.end))
+    let counted : c.byte_count.result ≡ byte_count (code_with c.in-Open.p (part c.args.body.now c.in-Open.start c.in-Open.end)) =
+    count_is c.in-Open.p (part c.args.body.now c.in-Open.start c.in-Open.end)
     (subst (λ (l : Layout). c.byte_count.result ≡ (sum_to l.n (width_in l) + 7) / 8) laid c.byte_count.ensures.0) in let both =
     pack_clauses c.args.body.now c.args.message.now c.args.out.now
     (wrong_buffer (open_packable c.args.body.now) c.args.message.now c.args.out.now (λ p. p.n) byte_count (pack_rest c.args.message.now)
-    ((code_with c.in-Open.p ((part c.args.body.now c.in-Open.start c.in-Open.end)))) opens.code
+    (code_with c.in-Open.p (part c.args.body.now c.in-Open.start c.in-Open.end)) opens.code
     _ _ refl counted c.buffers_fit.result c.buffers_fit.ensures (ap not c.if-not-buffers_fit.true)) in record { result = both.0; packed = both.1 }
 
 pub returns-then-not-symbols_fit : goal.returns-then-not-symbols_fit
@@ -50,16 +50,16 @@ returns-then-not-symbols_fit c =
     opens_as c.args.body.now c.open_packable-o.result c.open_packable-o.ensures.opened c.in-Open.p c.in-Open.start c.in-Open.end c.in-Open.is
     c.open_packable-o.ensures.placed in
     let laid : c.layout-l.result ≡ layout_of c.in-Open.p = c.layout-l.ensures.0 in
-    let counted : c.byte_count.result ≡ byte_count ((code_with c.in-Open.p ((part c.args.body.now c.in-Open.start c.in-Open.end)))) =
-    count_is c.in-Open.p ((part c.args.body.now c.in-Open.start c.in-Open.end))
+    let counted : c.byte_count.result ≡ byte_count (code_with c.in-Open.p (part c.args.body.now c.in-Open.start c.in-Open.end)) =
+    count_is c.in-Open.p (part c.args.body.now c.in-Open.start c.in-Open.end)
     (subst (λ (l : Layout). c.byte_count.result ≡ (sum_to l.n (width_in l) + 7) / 8) laid c.byte_count.ensures.0) in
-    let left : result (pack_rest c.args.message.now ((code_with c.in-Open.p ((part c.args.body.now c.in-Open.start c.in-Open.end))))) c.args.out.now
+    let left : result (pack_rest c.args.message.now (code_with c.in-Open.p (part c.args.body.now c.in-Open.start c.in-Open.end))) c.args.out.now
     ≡ (pack_code c.args.body.now c.args.message.now c.args.out.now) =
     both_fit (open_packable c.args.body.now) c.args.message.now c.args.out.now (λ p. p.n) byte_count (pack_rest c.args.message.now)
-    ((code_with c.in-Open.p ((part c.args.body.now c.in-Open.start c.in-Open.end)))) opens.code
+    (code_with c.in-Open.p (part c.args.body.now c.in-Open.start c.in-Open.end)) opens.code
     _ _ refl counted c.buffers_fit.result c.buffers_fit.ensures (ap not c.if-not-buffers_fit.false) in
-    let fit : symbols_fit ((code_with c.in-Open.p ((part c.args.body.now c.in-Open.start c.in-Open.end)))) c.args.message.now ≡ c.symbols_fit.result =
-    sym (c.symbols_fit.ensures ((part c.args.body.now c.in-Open.start c.in-Open.end))) in
+    let fit : symbols_fit (code_with c.in-Open.p (part c.args.body.now c.in-Open.start c.in-Open.end)) c.args.message.now ≡ c.symbols_fit.result =
+    sym (c.symbols_fit.ensures (part c.args.body.now c.in-Open.start c.in-Open.end)) in
     let both = pack_clauses c.args.body.now c.args.message.now c.args.out.now
     ((let h = fit ∙ c.if-not-symbols_fit.true in rw h) ∙ left) in record { result = both.0; packed = both.1 }
 
@@ -71,15 +71,15 @@ store_packed-requires-clause-fits c =
     let laid : c.layout-l.result ≡ layout_of c.in-Open.p = c.layout-l.ensures.0 in
     let long : (length c.args.message.now ≡ c.in-Open.p.n) × (length c.args.out.now ≡ c.byte_count.result) =
     lengths _ _ _ _ c.buffers_fit.result c.buffers_fit.ensures (ap not c.if-not-buffers_fit.false) in
-    let fit : symbols_fit ((code_with c.in-Open.p ((part c.args.body.now c.in-Open.start c.in-Open.end)))) c.args.message.now ≡ c.symbols_fit.result =
-    sym (c.symbols_fit.ensures ((part c.args.body.now c.in-Open.start c.in-Open.end))) in
-    let passes : symbols_fit ((code_with c.in-Open.p ((part c.args.body.now c.in-Open.start c.in-Open.end)))) c.args.message.now ≡ true =
+    let fit : symbols_fit (code_with c.in-Open.p (part c.args.body.now c.in-Open.start c.in-Open.end)) c.args.message.now ≡ c.symbols_fit.result =
+    sym (c.symbols_fit.ensures (part c.args.body.now c.in-Open.start c.in-Open.end)) in
+    let passes : symbols_fit (code_with c.in-Open.p (part c.args.body.now c.in-Open.start c.in-Open.end)) c.args.message.now ≡ true =
     fit ∙ c.if-not-symbols_fit.false in
-    let m = fits ((code_with c.in-Open.p ((part c.args.body.now c.in-Open.start c.in-Open.end)))) c.args.message.now long.0 passes in
+    let m = fits (code_with c.in-Open.p (part c.args.body.now c.in-Open.start c.in-Open.end)) c.args.message.now long.0 passes in
     let narrow = subst Narrow laid c.layout-l.ensures.1 in
     subst (λ (l : Layout). Fitting l c.args.message.now) (sym laid)
-    (fitting c.in-Open.p ((part c.args.body.now c.in-Open.start c.in-Open.end)) c.args.message.now
-    (opens_powers c.args.body.now ((code_with c.in-Open.p ((part c.args.body.now c.in-Open.start c.in-Open.end)))) opens.code).1 m narrow)
+    (fitting c.in-Open.p (part c.args.body.now c.in-Open.start c.in-Open.end) c.args.message.now
+    (opens_powers c.args.body.now (code_with c.in-Open.p (part c.args.body.now c.in-Open.start c.in-Open.end)) opens.code).1 m narrow)
 
 pub returns : goal.returns
 unfolding pack_code
@@ -88,19 +88,19 @@ returns c =
     opens_as c.args.body.now c.open_packable-o.result c.open_packable-o.ensures.opened c.in-Open.p c.in-Open.start c.in-Open.end c.in-Open.is
     c.open_packable-o.ensures.placed in
     let laid : c.layout-l.result ≡ layout_of c.in-Open.p = c.layout-l.ensures.0 in
-    let counted : c.byte_count.result ≡ byte_count ((code_with c.in-Open.p ((part c.args.body.now c.in-Open.start c.in-Open.end)))) =
-    count_is c.in-Open.p ((part c.args.body.now c.in-Open.start c.in-Open.end))
+    let counted : c.byte_count.result ≡ byte_count (code_with c.in-Open.p (part c.args.body.now c.in-Open.start c.in-Open.end)) =
+    count_is c.in-Open.p (part c.args.body.now c.in-Open.start c.in-Open.end)
     (subst (λ (l : Layout). c.byte_count.result ≡ (sum_to l.n (width_in l) + 7) / 8) laid c.byte_count.ensures.0) in
     let long : (length c.args.message.now ≡ c.in-Open.p.n) × (length c.args.out.now ≡ c.byte_count.result) =
     lengths _ _ _ _ c.buffers_fit.result c.buffers_fit.ensures (ap not c.if-not-buffers_fit.false) in
-    let left : result (pack_rest c.args.message.now ((code_with c.in-Open.p ((part c.args.body.now c.in-Open.start c.in-Open.end))))) c.args.out.now
+    let left : result (pack_rest c.args.message.now (code_with c.in-Open.p (part c.args.body.now c.in-Open.start c.in-Open.end))) c.args.out.now
     ≡ (pack_code c.args.body.now c.args.message.now c.args.out.now) =
     both_fit (open_packable c.args.body.now) c.args.message.now c.args.out.now (λ p. p.n) byte_count (pack_rest c.args.message.now)
-    ((code_with c.in-Open.p ((part c.args.body.now c.in-Open.start c.in-Open.end)))) opens.code
+    (code_with c.in-Open.p (part c.args.body.now c.in-Open.start c.in-Open.end)) opens.code
     _ _ refl counted c.buffers_fit.result c.buffers_fit.ensures (ap not c.if-not-buffers_fit.false) in
-    let fit : symbols_fit ((code_with c.in-Open.p ((part c.args.body.now c.in-Open.start c.in-Open.end)))) c.args.message.now ≡ c.symbols_fit.result =
-    sym (c.symbols_fit.ensures ((part c.args.body.now c.in-Open.start c.in-Open.end))) in
-    let passes : symbols_fit ((code_with c.in-Open.p ((part c.args.body.now c.in-Open.start c.in-Open.end)))) c.args.message.now ≡ true =
+    let fit : symbols_fit (code_with c.in-Open.p (part c.args.body.now c.in-Open.start c.in-Open.end)) c.args.message.now ≡ c.symbols_fit.result =
+    sym (c.symbols_fit.ensures (part c.args.body.now c.in-Open.start c.in-Open.end)) in
+    let passes : symbols_fit (code_with c.in-Open.p (part c.args.body.now c.in-Open.start c.in-Open.end)) c.args.message.now ≡ true =
     fit ∙ c.if-not-symbols_fit.false in
     let both = pack_clauses c.args.body.now c.args.message.now c.args.out.now
     (ap (leaves (given tt))
@@ -108,5 +108,5 @@ returns c =
     ∙ subst (λ (l : Layout). bytes_of (length c.args.out.now) (at (bits_of (width_in l) c.args.message.now l.n)) ≡ bytes_of (length c.args.out.now)
     (at (bits_of (width_in (layout_of c.in-Open.p)) c.args.message.now c.in-Open.p.n))) (sym laid) refl
     ∙ ap (λ (m : ℕ). bytes_of m (at (bits_of (width_in (layout_of c.in-Open.p)) c.args.message.now c.in-Open.p.n))) (long.1 ∙ counted)
-    ∙ packs c.in-Open.p ((part c.args.body.now c.in-Open.start c.in-Open.end)) c.args.message.now)
+    ∙ packs c.in-Open.p (part c.args.body.now c.in-Open.start c.in-Open.end) c.args.message.now)
     ∙ (let h = passes in rw h) ∙ left) in record { result = both.0; packed = both.1 }

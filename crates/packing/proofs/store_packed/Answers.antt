@@ -12,20 +12,20 @@ use Rattle.packing.proofs.store_packed.Goals as goal
 
 pub loop-j-preserved : goal.loop-j-preserved
 loop-j-preserved c =
-    let same : length ((bytes_of (length c.args.out.now) ((at (bits_of (width_in c.args.l) c.args.message.now c.args.l.n)))))
-    ≡ length c.args.out.now = bytes_long (length c.args.out.now) ((at (bits_of (width_in c.args.l) c.args.message.now c.args.l.n))) in
+    let same : length (bytes_of (length c.args.out.now) (at (bits_of (width_in c.args.l) c.args.message.now c.args.l.n)))
+    ≡ length c.args.out.now = bytes_long (length c.args.out.now) (at (bits_of (width_in c.args.l) c.args.message.now c.args.l.n)) in
     let byte = c.byte.ensures ∙ byte_full c.args.l c.args.message.now c.loop-j.j c.pull-y.result c.pull-y.ensures.pulling c.pull-y.ensures.full in (
       search rules,
       simp length-set c.loop-j.invariant.1,
-      store_next ((bytes_of (length c.args.out.now) ((at (bits_of (width_in c.args.l) c.args.message.now c.args.l.n))))) c.args.out.now same
+      store_next (bytes_of (length c.args.out.now) (at (bits_of (width_in c.args.l) c.args.message.now c.args.l.n))) c.args.out.now same
           c.loop-j.out c.loop-j.j c.byte.result c.loop-j.invariant.2 (omega arith)
-          (byte ∙ sym (bytes_at (length c.args.out.now) ((at (bits_of (width_in c.args.l) c.args.message.now c.args.l.n))) c.loop-j.j (omega arith))),
+          (byte ∙ sym (bytes_at (length c.args.out.now) (at (bits_of (width_in c.args.l) c.args.message.now c.args.l.n)) c.loop-j.j (omega arith))),
       byte_next c.args.l c.args.message.now c.loop-j.j c.pull-y.result c.pull-y.ensures.pulling c.pull-y.ensures.full,
     )
 
 pub returns : goal.returns
 returns c =
-    let same : length ((bytes_of (length c.args.out.now) ((at (bits_of (width_in c.args.l) c.args.message.now c.args.l.n)))))
-    ≡ length c.args.out.now = bytes_long (length c.args.out.now) ((at (bits_of (width_in c.args.l) c.args.message.now c.args.l.n))) in
-    store_end ((bytes_of (length c.args.out.now) ((at (bits_of (width_in c.args.l) c.args.message.now c.args.l.n))))) c.args.out.now same c.loop-j.out
+    let same : length (bytes_of (length c.args.out.now) (at (bits_of (width_in c.args.l) c.args.message.now c.args.l.n)))
+    ≡ length c.args.out.now = bytes_long (length c.args.out.now) (at (bits_of (width_in c.args.l) c.args.message.now c.args.l.n)) in
+    store_end (bytes_of (length c.args.out.now) (at (bits_of (width_in c.args.l) c.args.message.now c.args.l.n))) c.args.out.now same c.loop-j.out
     c.loop-j.j c.loop-j.invariant.2 (omega arith)

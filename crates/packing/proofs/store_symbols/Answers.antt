@@ -8,10 +8,10 @@ use Rattle.packing.proofs.store_symbols.Goals as goal
 
 pub loop-i-preserved : goal.loop-i-preserved
 loop-i-preserved c =
-    let same : length ((take (length c.args.out.now) c.args.t.symbols)) ≡ length c.args.out.now =
+    let same : length (take (length c.args.out.now) c.args.t.symbols) ≡ length c.args.out.now =
     length-take-le (length c.args.out.now) c.args.t.symbols (omega (arith, c.requires)) in (
       search rules,
       simp length-set c.loop-i.invariant.1,
-      store_next ((take (length c.args.out.now) c.args.t.symbols)) c.args.out.now same c.loop-i.out c.loop-i.i _ c.loop-i.invariant.2 (omega arith)
+      store_next (take (length c.args.out.now) c.args.t.symbols) c.args.out.now same c.loop-i.out c.loop-i.i _ c.loop-i.invariant.2 (omega arith)
           (sym (get_or-take (length c.args.out.now) c.args.t.symbols c.loop-i.i 0 (omega arith))),
     )

@@ -37,12 +37,12 @@ returns-then-not-buffers_fit c =
     opens_as c.args.body.now c.open_packable-o.result c.open_packable-o.ensures.opened c.in-Open.p c.in-Open.start c.in-Open.end c.in-Open.is
     c.open_packable-o.ensures.placed in
     let laid : c.layout-l.result ≡ layout_of c.in-Open.p = c.layout-l.ensures.0 in
-    let counted : c.byte_count.result ≡ byte_count ((code_with c.in-Open.p ((part c.args.body.now c.in-Open.start c.in-Open.end)))) =
-    count_is c.in-Open.p ((part c.args.body.now c.in-Open.start c.in-Open.end))
+    let counted : c.byte_count.result ≡ byte_count (code_with c.in-Open.p (part c.args.body.now c.in-Open.start c.in-Open.end)) =
+    count_is c.in-Open.p (part c.args.body.now c.in-Open.start c.in-Open.end)
     (subst (λ (l : Layout). c.byte_count.result ≡ (sum_to l.n (width_in l) + 7) / 8) laid c.byte_count.ensures.0) in let both =
     unpack_clauses c.args.body.now c.args.bytes.now c.args.out.now small
     (wrong_buffer (open_packable c.args.body.now) c.args.bytes.now c.args.out.now byte_count (λ p. p.n) (unpack_rest c.args.bytes.now)
-    ((code_with c.in-Open.p ((part c.args.body.now c.in-Open.start c.in-Open.end)))) opens.code
+    (code_with c.in-Open.p (part c.args.body.now c.in-Open.start c.in-Open.end)) opens.code
     _ _ counted refl c.buffers_fit.result c.buffers_fit.ensures (ap not c.if-not-buffers_fit.true)) in record { result = both.0; unpacked = both.1 }
 
 pub returns-then-leftover_set : goal.returns-then-leftover_set
@@ -53,24 +53,24 @@ returns-then-leftover_set c =
     opens_as c.args.body.now c.open_packable-o.result c.open_packable-o.ensures.opened c.in-Open.p c.in-Open.start c.in-Open.end c.in-Open.is
     c.open_packable-o.ensures.placed in
     let laid : c.layout-l.result ≡ layout_of c.in-Open.p = c.layout-l.ensures.0 in
-    let counted : c.byte_count.result ≡ byte_count ((code_with c.in-Open.p ((part c.args.body.now c.in-Open.start c.in-Open.end)))) =
-    count_is c.in-Open.p ((part c.args.body.now c.in-Open.start c.in-Open.end))
+    let counted : c.byte_count.result ≡ byte_count (code_with c.in-Open.p (part c.args.body.now c.in-Open.start c.in-Open.end)) =
+    count_is c.in-Open.p (part c.args.body.now c.in-Open.start c.in-Open.end)
     (subst (λ (l : Layout). c.byte_count.result ≡ (sum_to l.n (width_in l) + 7) / 8) laid c.byte_count.ensures.0) in
-    let left : result (unpack_rest c.args.bytes.now ((code_with c.in-Open.p ((part c.args.body.now c.in-Open.start c.in-Open.end))))) c.args.out.now
+    let left : result (unpack_rest c.args.bytes.now (code_with c.in-Open.p (part c.args.body.now c.in-Open.start c.in-Open.end))) c.args.out.now
     ≡ (unpack_code c.args.body.now c.args.bytes.now c.args.out.now) =
     both_fit (open_packable c.args.body.now) c.args.bytes.now c.args.out.now byte_count (λ p. p.n) (unpack_rest c.args.bytes.now)
-    ((code_with c.in-Open.p ((part c.args.body.now c.in-Open.start c.in-Open.end)))) opens.code
+    (code_with c.in-Open.p (part c.args.body.now c.in-Open.start c.in-Open.end)) opens.code
     _ _ counted refl c.buffers_fit.result c.buffers_fit.ensures (ap not c.if-not-buffers_fit.false) in
-    let told : c.leftover_set.result ≡ leftover_set ((code_with c.in-Open.p ((part c.args.body.now c.in-Open.start c.in-Open.end)))) c.args.bytes.now
-    = c.leftover_set.ensures ((code_with c.in-Open.p ((part c.args.body.now c.in-Open.start c.in-Open.end))))
-    (subst (LaidOut ((code_with c.in-Open.p ((part c.args.body.now c.in-Open.start c.in-Open.end))))) (sym laid)
-    (refl, widths c.in-Open.p ((part c.args.body.now c.in-Open.start c.in-Open.end)))) in
+    let told : c.leftover_set.result ≡ leftover_set (code_with c.in-Open.p (part c.args.body.now c.in-Open.start c.in-Open.end)) c.args.bytes.now
+    = c.leftover_set.ensures (code_with c.in-Open.p (part c.args.body.now c.in-Open.start c.in-Open.end))
+    (subst (LaidOut (code_with c.in-Open.p (part c.args.body.now c.in-Open.start c.in-Open.end))) (sym laid)
+    (refl, widths c.in-Open.p (part c.args.body.now c.in-Open.start c.in-Open.end))) in
     let decided : (t : Bool) → c.leftover_set.result
     ≡ t → (result (refuse 19 when t else given
-    (tt, unpack ((code_with c.in-Open.p ((part c.args.body.now c.in-Open.start c.in-Open.end)))) c.args.bytes.now)) c.args.out.now)
+    (tt, unpack (code_with c.in-Open.p (part c.args.body.now c.in-Open.start c.in-Open.end)) c.args.bytes.now)) c.args.out.now)
     ≡ (unpack_code c.args.body.now c.args.bytes.now c.args.out.now) =
-    (λ t e. ap (((λ t. result (refuse 19 when t else given
-    (tt, unpack ((code_with c.in-Open.p ((part c.args.body.now c.in-Open.start c.in-Open.end)))) c.args.bytes.now)) c.args.out.now)))
+    (λ t e. ap (λ t. result (refuse 19 when t else given
+    (tt, unpack (code_with c.in-Open.p (part c.args.body.now c.in-Open.start c.in-Open.end)) c.args.bytes.now)) c.args.out.now)
     (sym e ∙ told) ∙ left) in
     let both = unpack_clauses c.args.body.now c.args.bytes.now c.args.out.now small
     (decided true c.if-leftover_set.true) in record { result = both.0; unpacked = both.1 }
@@ -84,31 +84,31 @@ returns c =
     opens_as c.args.body.now c.open_packable-o.result c.open_packable-o.ensures.opened c.in-Open.p c.in-Open.start c.in-Open.end c.in-Open.is
     c.open_packable-o.ensures.placed in
     let laid : c.layout-l.result ≡ layout_of c.in-Open.p = c.layout-l.ensures.0 in
-    let counted : c.byte_count.result ≡ byte_count ((code_with c.in-Open.p ((part c.args.body.now c.in-Open.start c.in-Open.end)))) =
-    count_is c.in-Open.p ((part c.args.body.now c.in-Open.start c.in-Open.end))
+    let counted : c.byte_count.result ≡ byte_count (code_with c.in-Open.p (part c.args.body.now c.in-Open.start c.in-Open.end)) =
+    count_is c.in-Open.p (part c.args.body.now c.in-Open.start c.in-Open.end)
     (subst (λ (l : Layout). c.byte_count.result ≡ (sum_to l.n (width_in l) + 7) / 8) laid c.byte_count.ensures.0) in
     let long : (length c.args.bytes.now ≡ c.byte_count.result) × (length c.args.out.now ≡ c.in-Open.p.n) =
     lengths _ _ _ _ c.buffers_fit.result c.buffers_fit.ensures (ap not c.if-not-buffers_fit.false) in
-    let left : result (unpack_rest c.args.bytes.now ((code_with c.in-Open.p ((part c.args.body.now c.in-Open.start c.in-Open.end))))) c.args.out.now
+    let left : result (unpack_rest c.args.bytes.now (code_with c.in-Open.p (part c.args.body.now c.in-Open.start c.in-Open.end))) c.args.out.now
     ≡ (unpack_code c.args.body.now c.args.bytes.now c.args.out.now) =
     both_fit (open_packable c.args.body.now) c.args.bytes.now c.args.out.now byte_count (λ p. p.n) (unpack_rest c.args.bytes.now)
-    ((code_with c.in-Open.p ((part c.args.body.now c.in-Open.start c.in-Open.end)))) opens.code
+    (code_with c.in-Open.p (part c.args.body.now c.in-Open.start c.in-Open.end)) opens.code
     _ _ counted refl c.buffers_fit.result c.buffers_fit.ensures (ap not c.if-not-buffers_fit.false) in
-    let told : c.leftover_set.result ≡ leftover_set ((code_with c.in-Open.p ((part c.args.body.now c.in-Open.start c.in-Open.end)))) c.args.bytes.now
-    = c.leftover_set.ensures ((code_with c.in-Open.p ((part c.args.body.now c.in-Open.start c.in-Open.end))))
-    (subst (LaidOut ((code_with c.in-Open.p ((part c.args.body.now c.in-Open.start c.in-Open.end))))) (sym laid)
-    (refl, widths c.in-Open.p ((part c.args.body.now c.in-Open.start c.in-Open.end)))) in
+    let told : c.leftover_set.result ≡ leftover_set (code_with c.in-Open.p (part c.args.body.now c.in-Open.start c.in-Open.end)) c.args.bytes.now
+    = c.leftover_set.ensures (code_with c.in-Open.p (part c.args.body.now c.in-Open.start c.in-Open.end))
+    (subst (LaidOut (code_with c.in-Open.p (part c.args.body.now c.in-Open.start c.in-Open.end))) (sym laid)
+    (refl, widths c.in-Open.p (part c.args.body.now c.in-Open.start c.in-Open.end))) in
     let decided : (t : Bool) → c.leftover_set.result
     ≡ t → (result (refuse 19 when t else given
-    (tt, unpack ((code_with c.in-Open.p ((part c.args.body.now c.in-Open.start c.in-Open.end)))) c.args.bytes.now)) c.args.out.now)
+    (tt, unpack (code_with c.in-Open.p (part c.args.body.now c.in-Open.start c.in-Open.end)) c.args.bytes.now)) c.args.out.now)
     ≡ (unpack_code c.args.body.now c.args.bytes.now c.args.out.now) =
-    (λ t e. ap (((λ t. result (refuse 19 when t else given
-    (tt, unpack ((code_with c.in-Open.p ((part c.args.body.now c.in-Open.start c.in-Open.end)))) c.args.bytes.now)) c.args.out.now)))
+    (λ t e. ap (λ t. result (refuse 19 when t else given
+    (tt, unpack (code_with c.in-Open.p (part c.args.body.now c.in-Open.start c.in-Open.end)) c.args.bytes.now)) c.args.out.now)
     (sym e ∙ told) ∙ left) in
     let taken = subst (λ (l : Layout). Taken l c.args.bytes.now c.take_symbols.result) laid c.take_symbols.ensures in
     let both = unpack_clauses c.args.body.now c.args.bytes.now c.args.out.now small
     (ap (leaves (given tt))
     (c.store_symbols.ensures ∙ ap (λ (m : ℕ). take m c.take_symbols.result.symbols) long.1
-    ∙ unpacks c.in-Open.p ((part c.args.body.now c.in-Open.start c.in-Open.end)) c.args.bytes.now c.take_symbols.result opens.place.ready.n-high
+    ∙ unpacks c.in-Open.p (part c.args.body.now c.in-Open.start c.in-Open.end) c.args.bytes.now c.take_symbols.result opens.place.ready.n-high
     taken)
     ∙ decided false clear) in record { result = both.0; unpacked = both.1 }

@@ -36,7 +36,6 @@ choose_cell-choose_magnitude-here-requires t c =
     let a = c.args.a in
     let k = c.args.k in
     let A = c.args.matrix.now in
-    let y = c.args.word.now in
     let l = c.loop-c in
     let pre = c.requires in
     let some : 1 ≤ k.left = let h = c.if-k-eq0.false in omega arith in
@@ -122,7 +121,6 @@ choose_cell-returns t c =
     let A = c.args.matrix.now in
     let y = c.args.word.now in
     let l = c.loop-c in
-    let pre = c.requires in
     let some : 1 ≤ k.left = let h = c.if-k-eq0.false in omega arith in
     seek_none (test_for a A y) a.p.n _ _ (cell_none (code_with a.p A) k.risen k.left l.c some c.loop-c-test.false)
     ∙ sym l.invariant.3
@@ -132,7 +130,6 @@ choose_magnitude-loop-mag-init t c =
     let a = c.args.a in
     let k = c.args.k in
     let A = c.args.matrix.now in
-    let y = c.args.word.now in
     let p = code_with a.p A in
     let pre = c.requires in
     let given = pre.reached in
@@ -144,11 +141,9 @@ choose_magnitude-lowered-y-requires t c =
     let a = c.args.a in
     let k = c.args.k in
     let A = c.args.matrix.now in
-    let y = c.args.word.now in
     let p = code_with a.p A in
     let l = c.loop-mag in
     let pre = c.requires in
-    let given = pre.reached in
     let column-small : (i : ℕ) → column p i k.cell < a.p.m = (λ i. column-below p i k.cell pre.asks.ready.m-low pre.asks.ready.entries) in
     let ready = pre.asks.ready in
     let small : (i : ℕ) → at c.column_of-column.result i < a.p.m = (λ i. omega (arith, c.column_of-column.ensures i, column-small i)) in
@@ -162,7 +157,6 @@ choose_magnitude-choose_cell-inner-requires t c =
     let a = c.args.a in
     let k = c.args.k in
     let A = c.args.matrix.now in
-    let y = c.args.word.now in
     let p = code_with a.p A in
     let l = c.loop-mag in
     let pre = c.requires in
@@ -269,6 +263,4 @@ choose_magnitude-returns t c =
     let y = c.args.word.now in
     let p = code_with a.p A in
     let l = c.loop-mag in
-    let pre = c.requires in
-    let given = pre.reached in
     seek_none (test_for a A y) a.p.n _ _ (mag_none p k.risen k.left k.cell l.mag c.loop-mag-test.false) ∙ sym l.invariant.3

@@ -16,8 +16,6 @@ use Rattle.search.proofs.Order.{all_tried}
 use Rattle.search.proofs.Whole.{up_to, answer_none, answer-found, answer_counts, found_weighs, weight_done, room_all}
 use Rattle.search.proofs.heavier.Goals as goal
 
--- The invariant: none of fewer than `weight` risen cells passes, and `tried` is their number.
-
 pub mark_cells-requires-clause-clear : goal.mark_cells-requires-clause-clear
 mark_cells-requires-clause-clear c = ((λ h. zeros-at 4096 h), length-replicate {A = ℕ} 4096 0)
 
@@ -28,51 +26,51 @@ choose_cell-here-requires-clause-reached c =
       chosen = chosen_none c.loop-weight.weight (omega arith);
       cells = omega arith;
       remains = remains_all
-          ((code_with c.args.a.p c.args.matrix.now)) c.args.a.s c.requires.asks.range;
+          (code_with c.args.a.p c.args.matrix.now) c.args.a.s c.requires.asks.range;
     } in
     let e = sym c.begin.ensures in
     subst (λ (x : Choices). Reached c.args.a c.args.matrix.now x c.args.a.s) e reached
 
 pub choose_cell-here-requires-clause-room : goal.choose_cell-here-requires-clause-room
 choose_cell-here-requires-clause-room c =
-    let room = room_all ((code_with c.args.a.p c.args.matrix.now)) c.loop-weight.weight c.loop-weight.tried (omega (arith, c.loop-weight.invariant.0))
+    let room = room_all (code_with c.args.a.p c.args.matrix.now) c.loop-weight.weight c.loop-weight.tried (omega (arith, c.loop-weight.invariant.0))
     c.loop-weight-test.true
-    (all_tried ((test_for c.args.a c.args.matrix.now c.args.word.now)) (up_to ((code_with c.args.a.p c.args.matrix.now)) (c.loop-weight.weight - 1)) 0
+    (all_tried (test_for c.args.a c.args.matrix.now c.args.word.now) (up_to (code_with c.args.a.p c.args.matrix.now) (c.loop-weight.weight - 1)) 0
     c.loop-weight.tried c.loop-weight.invariant.2
-    ∙ zero-add (length (up_to ((code_with c.args.a.p c.args.matrix.now)) (c.loop-weight.weight - 1)))) c.requires.asks.ready.few in
+    ∙ zero-add (length (up_to (code_with c.args.a.p c.args.matrix.now) (c.loop-weight.weight - 1)))) c.requires.asks.ready.few in
     let e = sym c.begin.ensures in
     subst
     (λ (x : Choices). x.tried + length (cells_left c.args.a c.args.matrix.now x) ≤ 4096) e room
 
 pub returns-in-Hit : goal.returns-in-Hit
 returns-in-Hit c =
-    let gave : sought_as c.args.a.p.n c.choose_cell-here.result ≡ seek ((test_for c.args.a c.args.matrix.now c.args.word.now))
-    (cells_from ((code_with c.args.a.p c.args.matrix.now)) unrisen c.loop-weight.weight 0) c.loop-weight.tried =
-    subst (λ (x : Choices). sought_as c.args.a.p.n c.choose_cell-here.result ≡ seek ((test_for c.args.a c.args.matrix.now c.args.word.now))
+    let gave : sought_as c.args.a.p.n c.choose_cell-here.result ≡ seek (test_for c.args.a c.args.matrix.now c.args.word.now)
+    (cells_from (code_with c.args.a.p c.args.matrix.now) unrisen c.loop-weight.weight 0) c.loop-weight.tried =
+    subst (λ (x : Choices). sought_as c.args.a.p.n c.choose_cell-here.result ≡ seek (test_for c.args.a c.args.matrix.now c.args.word.now)
     (cells_left c.args.a c.args.matrix.now x) x.tried)
     c.begin.ensures c.choose_cell-here.ensures in
     let found = sym (ap (sought_as c.args.a.p.n) c.in-Hit.is) ∙ gave in
-    let done = weight_done ((code_with c.args.a.p c.args.matrix.now)) ((test_for c.args.a c.args.matrix.now c.args.word.now)) c.loop-weight.weight
+    let done = weight_done (code_with c.args.a.p c.args.matrix.now) (test_for c.args.a c.args.matrix.now c.args.word.now) c.loop-weight.weight
     c.loop-weight.tried (omega (arith, c.loop-weight.invariant.0)) c.loop-weight.invariant.2 _ found in
     record {
-      found = answer-found ((code_with c.args.a.p c.args.matrix.now)) ((test_for c.args.a c.args.matrix.now c.args.word.now)) _
+      found = answer-found (code_with c.args.a.p c.args.matrix.now) (test_for c.args.a c.args.matrix.now c.args.word.now) _
           c.loop-weight.weight c.loop-weight.weight _ c.loop-weight-test.true done;
       counts =
-          answer_counts ((code_with c.args.a.p c.args.matrix.now)) ((test_for c.args.a c.args.matrix.now c.args.word.now)) _ c.loop-weight.weight
+          answer_counts (code_with c.args.a.p c.args.matrix.now) (test_for c.args.a c.args.matrix.now c.args.word.now) _ c.loop-weight.weight
           c.loop-weight.weight _ c.loop-weight-test.true done
-          (found_weighs ((code_with c.args.a.p c.args.matrix.now)) ((test_for c.args.a c.args.matrix.now c.args.word.now)) c.loop-weight.weight
+          (found_weighs (code_with c.args.a.p c.args.matrix.now) (test_for c.args.a c.args.matrix.now c.args.word.now) c.loop-weight.weight
           c.loop-weight.tried _ _ found);
     }
 
 pub loop-weight-preserved : goal.loop-weight-preserved
 loop-weight-preserved c =
-    let gave : sought_as c.args.a.p.n c.choose_cell-here.result ≡ seek ((test_for c.args.a c.args.matrix.now c.args.word.now))
-    (cells_from ((code_with c.args.a.p c.args.matrix.now)) unrisen c.loop-weight.weight 0) c.loop-weight.tried =
-    subst (λ (x : Choices). sought_as c.args.a.p.n c.choose_cell-here.result ≡ seek ((test_for c.args.a c.args.matrix.now c.args.word.now))
+    let gave : sought_as c.args.a.p.n c.choose_cell-here.result ≡ seek (test_for c.args.a c.args.matrix.now c.args.word.now)
+    (cells_from (code_with c.args.a.p c.args.matrix.now) unrisen c.loop-weight.weight 0) c.loop-weight.tried =
+    subst (λ (x : Choices). sought_as c.args.a.p.n c.choose_cell-here.result ≡ seek (test_for c.args.a c.args.matrix.now c.args.word.now)
     (cells_left c.args.a c.args.matrix.now x) x.tried)
     c.begin.ensures c.choose_cell-here.ensures in
     let missed = sym (ap (sought_as c.args.a.p.n) c.in-Miss.is) ∙ gave in
-    let done = weight_done ((code_with c.args.a.p c.args.matrix.now)) ((test_for c.args.a c.args.matrix.now c.args.word.now)) c.loop-weight.weight
+    let done = weight_done (code_with c.args.a.p c.args.matrix.now) (test_for c.args.a c.args.matrix.now c.args.word.now) c.loop-weight.weight
     c.loop-weight.tried (omega (arith, c.loop-weight.invariant.0)) c.loop-weight.invariant.2 _ missed in
     let e : c.loop-weight.weight + 1 - 1 ≡ c.loop-weight.weight = omega arith in
     (search rules, search rules, rw e done)
@@ -80,6 +78,6 @@ loop-weight-preserved c =
 pub returns-clause-found : goal.returns-clause-found
 returns-clause-found c =
     let e : c.loop-weight.weight - 1 ≡ c.args.a.p.t = omega arith in
-    answer_none ((code_with c.args.a.p c.args.matrix.now)) ((test_for c.args.a c.args.matrix.now c.args.word.now))
-    c.loop-weight.tried (subst (λ (w : ℕ). seek ((test_for c.args.a c.args.matrix.now c.args.word.now))
-    (up_to ((code_with c.args.a.p c.args.matrix.now)) w) 0 ≡ (none, c.loop-weight.tried)) e c.loop-weight.invariant.2)
+    answer_none (code_with c.args.a.p c.args.matrix.now) (test_for c.args.a c.args.matrix.now c.args.word.now)
+    c.loop-weight.tried (subst (λ (w : ℕ). seek (test_for c.args.a c.args.matrix.now c.args.word.now)
+    (up_to (code_with c.args.a.p c.args.matrix.now) w) 0 ≡ (none, c.loop-weight.tried)) e c.loop-weight.invariant.2)

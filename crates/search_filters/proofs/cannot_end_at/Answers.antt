@@ -5,8 +5,6 @@ use Rattle.search_filters.specs.Filters.{Misses}
 use Rattle.search_filters.proofs.Columns.{up_to_more}
 use Rattle.search_filters.proofs.cannot_end_at.Goals as goal
 
--- The invariant: no magnitude up to mag leaves nothing.
-
 pub loop-mag-preserved : goal.loop-mag-preserved
 loop-mag-preserved c =
     let code = code_with c.args.p c.args.matrix.now in

@@ -8,8 +8,6 @@ use Rattle.search_filters.proofs.Columns.{multiple_more}
 use Rattle.search_filters.proofs.Marks.{hash_same, marked_more}
 use Rattle.search_filters.proofs.mark.Goals as goal
 
--- The invariant: the multiples up to mag are marked.
-
 pub loop-mag-preserved : goal.loop-mag-preserved
 loop-mag-preserved c =
     let f = at c.args.column in

@@ -6,8 +6,6 @@ use Rattle.opening.specs.Opening.{code_with}
 use Rattle.syndrome.proofs.Columns.{column-below}
 use Rattle.search_filters.proofs.mark_cells.Goals as goal
 
--- The invariant: the cells before c are marked, and no number is above c.
-
 pub mark-requires-clause-bounds : goal.mark-requires-clause-bounds
 mark-requires-clause-bounds c =
     let code = code_with c.args.p c.args.matrix.now in

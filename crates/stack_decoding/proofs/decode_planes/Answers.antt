@@ -18,10 +18,10 @@ pub plane_pattern-f-requires-clause-plane : goal.plane_pattern-f-requires-clause
 plane_pattern-f-requires-clause-plane c =
     let fits : c.args.s.m ≤ length c.args.planes = (let six : length c.args.planes ≡ 6 = search rules in
     omega (arith, c.requires.stack_ready.m-high, six)) in
-    let here : PlaneCode c.args.body.now c.args.s.n ((plane_no c.args.planes c.loop-j.j)).parameters ((plane_no c.args.planes c.loop-j.j)).start
-    ((plane_no c.args.planes c.loop-j.j)).end = (c.requires.stack_ready.each c.loop-j.j c.loop-j-test.true).code in
+    let here : PlaneCode c.args.body.now c.args.s.n (plane_no c.args.planes c.loop-j.j).parameters (plane_no c.args.planes c.loop-j.j).start
+    (plane_no c.args.planes c.loop-j.j).end = (c.requires.stack_ready.each c.loop-j.j c.loop-j-test.true).code in
     let long : c.args.s.n ≤ length c.loop-j.levels = omega (arith, c.loop-j.invariant.1, c.requires.stack_ready.n-high) in
-    let low : 1 ≤ ((plane_no c.args.planes c.loop-j.j)).w = value_low fits c.requires.stack_ready.each c.loop-j.j c.loop-j-test.true in
+    let low : 1 ≤ (plane_no c.args.planes c.loop-j.j).w = value_low fits c.requires.stack_ready.each c.loop-j.j c.loop-j-test.true in
     let h = here in
     (h.whole, length-take-le _ _ long ∙ sym h.long, low)
 
@@ -29,30 +29,30 @@ pub returns-in_default : goal.returns-in_default
 returns-in_default c =
     let fits : c.args.s.m ≤ length c.args.planes = (let six : length c.args.planes ≡ 6 = search rules in
     omega (arith, c.requires.stack_ready.m-high, six)) in
-    let here : PlaneCode c.args.body.now c.args.s.n ((plane_no c.args.planes c.loop-j.j)).parameters ((plane_no c.args.planes c.loop-j.j)).start
-    ((plane_no c.args.planes c.loop-j.j)).end = (c.requires.stack_ready.each c.loop-j.j c.loop-j-test.true).code in
-    let found : found_word c.args.s.n c.plane_pattern-f.result ≡ first_with_syndrome (plane_in c.args.body.now ((plane_no c.args.planes c.loop-j.j)))
-    (digits ((plane_no c.args.planes c.loop-j.j)).w ((plane_no c.args.planes c.loop-j.j)).parameters.m ((take c.args.s.n c.loop-j.levels))) =
+    let here : PlaneCode c.args.body.now c.args.s.n (plane_no c.args.planes c.loop-j.j).parameters (plane_no c.args.planes c.loop-j.j).start
+    (plane_no c.args.planes c.loop-j.j).end = (c.requires.stack_ready.each c.loop-j.j c.loop-j-test.true).code in
+    let found : found_word c.args.s.n c.plane_pattern-f.result ≡ first_with_syndrome (plane_in c.args.body.now (plane_no c.args.planes c.loop-j.j))
+    (digits (plane_no c.args.planes c.loop-j.j).w (plane_no c.args.planes c.loop-j.j).parameters.m (take c.args.s.n c.loop-j.levels)) =
     ap (λ (n : ℕ). found_word n c.plane_pattern-f.result) (sym here.long) ∙ c.plane_pattern-f.ensures in
     (let h = lt-ltb c.loop-j.j c.args.s.m c.loop-j-test.true in rw h)
     ∙ sym (c.loop-j.invariant.2
-    ∙ nothing_found fits c.requires.stack_ready.each c.args.s.q c.loop-j.j c.loop-j-test.true ((take c.args.s.n c.loop-j.levels))
+    ∙ nothing_found fits c.requires.stack_ready.each c.args.s.q c.loop-j.j c.loop-j-test.true (take c.args.s.n c.loop-j.levels)
     c.plane_pattern-f.result found c.in_default.is)
 
 pub lower-x-requires : goal.lower-x-requires
 lower-x-requires c =
     let fits : c.args.s.m ≤ length c.args.planes = (let six : length c.args.planes ≡ 6 = search rules in
     omega (arith, c.requires.stack_ready.m-high, six)) in
-    let here : PlaneCode c.args.body.now c.args.s.n ((plane_no c.args.planes c.loop-j.j)).parameters ((plane_no c.args.planes c.loop-j.j)).start
-    ((plane_no c.args.planes c.loop-j.j)).end = (c.requires.stack_ready.each c.loop-j.j c.loop-j-test.true).code in
-    let low : 1 ≤ ((plane_no c.args.planes c.loop-j.j)).w = value_low fits c.requires.stack_ready.each c.loop-j.j c.loop-j-test.true in
-    let found : found_word c.args.s.n c.plane_pattern-f.result ≡ first_with_syndrome (plane_in c.args.body.now ((plane_no c.args.planes c.loop-j.j)))
-    (digits ((plane_no c.args.planes c.loop-j.j)).w ((plane_no c.args.planes c.loop-j.j)).parameters.m ((take c.args.s.n c.loop-j.levels))) =
+    let here : PlaneCode c.args.body.now c.args.s.n (plane_no c.args.planes c.loop-j.j).parameters (plane_no c.args.planes c.loop-j.j).start
+    (plane_no c.args.planes c.loop-j.j).end = (c.requires.stack_ready.each c.loop-j.j c.loop-j-test.true).code in
+    let low : 1 ≤ (plane_no c.args.planes c.loop-j.j).w = value_low fits c.requires.stack_ready.each c.loop-j.j c.loop-j-test.true in
+    let found : found_word c.args.s.n c.plane_pattern-f.result ≡ first_with_syndrome (plane_in c.args.body.now (plane_no c.args.planes c.loop-j.j))
+    (digits (plane_no c.args.planes c.loop-j.j).w (plane_no c.args.planes c.loop-j.j).parameters.m (take c.args.s.n c.loop-j.levels)) =
     ap (λ (n : ℕ). found_word n c.plane_pattern-f.result) (sym here.long) ∙ c.plane_pattern-f.ensures in
-    let pos : 0 < ((plane_no c.args.planes c.loop-j.j)).parameters.m = omega (arith, here.matrix.ready.m-low) in
+    let pos : 0 < (plane_no c.args.planes c.loop-j.j).parameters.m = omega (arith, here.matrix.ready.m-low) in
     let high = value-high fits c.requires.stack_ready.each c.loop-j.j c.loop-j-test.true in
-    let most : ((plane_no c.args.planes c.loop-j.j)).w ≤ c.args.s.q =
-    omega (arith, le-mul_of_pos_right ((plane_no c.args.planes c.loop-j.j)).w pos, c.requires.stack_ready.q_is) in
+    let most : (plane_no c.args.planes c.loop-j.j).w ≤ c.args.s.q =
+    omega (arith, le-mul_of_pos_right (plane_no c.args.planes c.loop-j.j).w pos, c.requires.stack_ready.q_is) in
     record {
       value = (
         c.requires.stack_ready.n-high,
@@ -62,7 +62,7 @@ lower-x-requires c =
         c.requires.stack_ready.q-high,
       );
       magnitudes = magnitudes-fit fits c.requires.stack_ready.each c.args.s.q c.loop-j.j c.loop-j-test.true
-          ((take c.args.s.n c.loop-j.levels)) c.plane_pattern-f.result found
+          (take c.args.s.n c.loop-j.levels) c.plane_pattern-f.result found
           c.in-Pattern.risen c.in-Pattern.count c.in-Pattern.tried c.in-Pattern.is
           (omega (arith, c.requires.stack_ready.q_is));
     }
@@ -71,16 +71,16 @@ pub loop-j-preserved : goal.loop-j-preserved
 loop-j-preserved c =
     let fits : c.args.s.m ≤ length c.args.planes = (let six : length c.args.planes ≡ 6 = search rules in
     omega (arith, c.requires.stack_ready.m-high, six)) in
-    let here : PlaneCode c.args.body.now c.args.s.n ((plane_no c.args.planes c.loop-j.j)).parameters ((plane_no c.args.planes c.loop-j.j)).start
-    ((plane_no c.args.planes c.loop-j.j)).end = (c.requires.stack_ready.each c.loop-j.j c.loop-j-test.true).code in
-    let found : found_word c.args.s.n c.plane_pattern-f.result ≡ first_with_syndrome (plane_in c.args.body.now ((plane_no c.args.planes c.loop-j.j)))
-    (digits ((plane_no c.args.planes c.loop-j.j)).w ((plane_no c.args.planes c.loop-j.j)).parameters.m ((take c.args.s.n c.loop-j.levels))) =
+    let here : PlaneCode c.args.body.now c.args.s.n (plane_no c.args.planes c.loop-j.j).parameters (plane_no c.args.planes c.loop-j.j).start
+    (plane_no c.args.planes c.loop-j.j).end = (c.requires.stack_ready.each c.loop-j.j c.loop-j-test.true).code in
+    let found : found_word c.args.s.n c.plane_pattern-f.result ≡ first_with_syndrome (plane_in c.args.body.now (plane_no c.args.planes c.loop-j.j))
+    (digits (plane_no c.args.planes c.loop-j.j).w (plane_no c.args.planes c.loop-j.j).parameters.m (take c.args.s.n c.loop-j.levels)) =
     ap (λ (n : ℕ). found_word n c.plane_pattern-f.result) (sym here.long) ∙ c.plane_pattern-f.ensures in
     let j = c.loop-j.j + 1 in (
       search rules,
       (search rules),
       c.loop-j.invariant.2
-          ∙ pattern-found fits c.requires.stack_ready.each c.args.s.q c.loop-j.j c.loop-j-test.true ((take c.args.s.n c.loop-j.levels))
+          ∙ pattern-found fits c.requires.stack_ready.each c.args.s.q c.loop-j.j c.loop-j-test.true (take c.args.s.n c.loop-j.levels)
           c.plane_pattern-f.result found
           c.in-Pattern.risen c.in-Pattern.count c.in-Pattern.tried c.in-Pattern.is
           ∙ ap (decode_planes c.args.s.q (value_at c.args.body.now c.args.planes j) j (planes_from c.args.body.now c.args.planes c.args.s.m j))

@@ -16,7 +16,7 @@ pub first_pattern-requires-clause-range : goal.first_pattern-requires-clause-ran
 first_pattern-requires-clause-range c =
     let fits : c.args.p.n ≤ length c.digits-d.result = search rules in
     let range =
-    syndrome-range c.args.p c.args.matrix.now ((take c.args.p.n c.digits-d.result)) c.syndrome-s.result c.requires.ready (length-take-le _ _ fits)
+    syndrome-range c.args.p c.args.matrix.now (take c.args.p.n c.digits-d.result) c.syndrome-s.result c.requires.ready (length-take-le _ _ fits)
     c.syndrome-s.ensures
     in
     range
@@ -28,5 +28,5 @@ returns c =
     ap (λ (n : ℕ). take n c.digits-d.result) (sym c.requires.plane.1) ∙ c.digits-d.ensures in
     let p = (code_with c.args.p c.args.matrix.now) in
     c.first_pattern.ensures.found
-    ∙ first_same p ((take c.args.p.n c.digits-d.result)) c.syndrome-s.result c.syndrome-s.ensures c.args.word.now (patterns_of p)
+    ∙ first_same p (take c.args.p.n c.digits-d.result) c.syndrome-s.result c.syndrome-s.ensures c.args.word.now (patterns_of p)
     ∙ ap (λ (d : List ℕ). first (same_syndrome p d) (patterns_of p)) are

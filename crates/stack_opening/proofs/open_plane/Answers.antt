@@ -24,7 +24,7 @@ pub returns-then-not-plane_in_range-clause-opened : goal.returns-then-not-plane_
 returns-then-not-plane_in_range-clause-opened c =
     let left-2 : Left c.args.body.now c.args.n c.args.at c.wide-c.result c.wide-r.result c.wide-t.result from2 =
     opens (c.args.n) (drop (c.args.at) (c.args.body.now))
-    ((code_from (c.args.body.now) (c.args.n) (c.args.at) c.wide-c.result c.wide-r.result c.wide-t.result))
+    (code_from (c.args.body.now) (c.args.n) (c.args.at) c.wide-c.result c.wide-r.result c.wide-t.result)
     (enough (c.args.body.now) (c.args.at) 3 c.if-body-at-lt3.false)
     (plane_from (c.args.body.now) (c.args.n) (c.args.at) c.wide-c.result c.wide-r.result c.wide-t.result c.wide-c.ensures.0 c.wide-r.ensures.0
     c.wide-t.ensures.0) in
@@ -34,7 +34,7 @@ pub returns-then-body-start-clause-opened : goal.returns-then-body-start-clause-
 returns-then-body-start-clause-opened c =
     let left-2 : Left c.args.body.now c.args.n c.args.at c.wide-c.result c.wide-r.result c.wide-t.result from2 =
     opens (c.args.n) (drop (c.args.at) (c.args.body.now))
-    ((code_from (c.args.body.now) (c.args.n) (c.args.at) c.wide-c.result c.wide-r.result c.wide-t.result))
+    (code_from (c.args.body.now) (c.args.n) (c.args.at) c.wide-c.result c.wide-r.result c.wide-t.result)
     (enough (c.args.body.now) (c.args.at) 3 c.if-body-at-lt3.false)
     (plane_from (c.args.body.now) (c.args.n) (c.args.at) c.wide-c.result c.wide-r.result c.wide-t.result c.wide-c.ensures.0 c.wide-r.ensures.0
     c.wide-t.ensures.0) in
@@ -59,7 +59,7 @@ pub returns-clause-opened : goal.returns-clause-opened
 returns-clause-opened c =
     let left-2 : Left c.args.body.now c.args.n c.args.at c.wide-c.result c.wide-r.result c.wide-t.result from2 =
     opens (c.args.n) (drop (c.args.at) (c.args.body.now))
-    ((code_from (c.args.body.now) (c.args.n) (c.args.at) c.wide-c.result c.wide-r.result c.wide-t.result))
+    (code_from (c.args.body.now) (c.args.n) (c.args.at) c.wide-c.result c.wide-r.result c.wide-t.result)
     (enough (c.args.body.now) (c.args.at) 3 c.if-body-at-lt3.false)
     (plane_from (c.args.body.now) (c.args.n) (c.args.at) c.wide-c.result c.wide-r.result c.wide-t.result c.wide-c.ensures.0 c.wide-r.ensures.0
     c.wide-t.ensures.0) in

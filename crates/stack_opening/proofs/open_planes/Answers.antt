@@ -20,7 +20,7 @@ returns-in_default-clause-opened c =
 
 pub overflow_mul-q : goal.overflow_mul-q
 overflow_mul-q c =
-    let placed : PlanePlaced c.args.body.now c.args.n c.loop-j.at ((Open c.in-Open.parameters c.in-Open.start c.in-Open.end)) =
+    let placed : PlanePlaced c.args.body.now c.args.n c.loop-j.at (Open c.in-Open.parameters c.in-Open.start c.in-Open.end) =
     subst (PlanePlaced c.args.body.now c.args.n c.loop-j.at) c.in-Open.is c.open_plane-o.ensures.placed in
     let grows : c.loop-j.q * c.in-Open.parameters.m ≤ 64 ^ (c.loop-j.j + 1) = (let g = placed.2.matrix.ready in
     levels_grow _ _ _ c.loop-j.invariant.2 (omega (arith, g.m-high, g.q-high))) in
@@ -28,7 +28,7 @@ overflow_mul-q c =
 
 pub loop-j-preserved : goal.loop-j-preserved
 loop-j-preserved c =
-    let placed : PlanePlaced c.args.body.now c.args.n c.loop-j.at ((Open c.in-Open.parameters c.in-Open.start c.in-Open.end)) =
+    let placed : PlanePlaced c.args.body.now c.args.n c.loop-j.at (Open c.in-Open.parameters c.in-Open.start c.in-Open.end) =
     subst (PlanePlaced c.args.body.now c.args.n c.loop-j.at) c.in-Open.is c.open_plane-o.ensures.placed in
     let grows : c.loop-j.q * c.in-Open.parameters.m ≤ 64 ^ (c.loop-j.j + 1) = (let g = placed.2.matrix.ready in
     levels_grow _ _ _ c.loop-j.invariant.2 (omega (arith, g.m-high, g.q-high))) in

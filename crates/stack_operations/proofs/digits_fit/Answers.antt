@@ -12,7 +12,7 @@ pub overflow_add-end : goal.overflow_add-end
 overflow_add-end c =
     let fits : c.args.s.m ≤ length c.args.planes = (let six : length c.args.planes ≡ 6 = search rules in
     omega (arith, c.requires.described.1.m-high, six)) in
-    let within : ((plane_no c.args.planes c.loop-j.j)).symbol + (c.args.s.n - ((plane_no c.args.planes c.loop-j.j)).parameters.r) ≤ length
+    let within : (plane_no c.args.planes c.loop-j.j).symbol + (c.args.s.n - (plane_no c.args.planes c.loop-j.j).parameters.r) ≤ length
     c.args.message.now = omega (
       arith,
       symbols-high fits c.requires.described.1.each c.loop-j.j c.loop-j-test.true,
@@ -25,7 +25,7 @@ pub slice_bounds-all_below-end : goal.slice_bounds-all_below-end
 slice_bounds-all_below-end c =
     let fits : c.args.s.m ≤ length c.args.planes = (let six : length c.args.planes ≡ 6 = search rules in
     omega (arith, c.requires.described.1.m-high, six)) in
-    let within : ((plane_no c.args.planes c.loop-j.j)).symbol + (c.args.s.n - ((plane_no c.args.planes c.loop-j.j)).parameters.r) ≤ length
+    let within : (plane_no c.args.planes c.loop-j.j).symbol + (c.args.s.n - (plane_no c.args.planes c.loop-j.j).parameters.r) ≤ length
     c.args.message.now = omega (
       arith,
       symbols-high fits c.requires.described.1.each c.loop-j.j c.loop-j-test.true,

@@ -24,7 +24,7 @@ loop-j-init c = (
 
 pub add_digits-y-requires : goal.add_digits-y-requires
 add_digits-y-requires c =
-    let here : PlaneReady c.args.body.now c.args.s.n (planes_in c.args.body.now c.args.planes c.loop-j.j) ((plane_no c.args.planes c.loop-j.j)) =
+    let here : PlaneReady c.args.body.now c.args.s.n (planes_in c.args.body.now c.args.planes c.loop-j.j) (plane_no c.args.planes c.loop-j.j) =
     c.requires.stack_ready.each c.loop-j.j c.loop-j-test.true in
     let fits : c.args.s.m ≤ length c.args.planes = (let six : length c.args.planes ≡ 6 = search rules in
     omega (arith, c.requires.stack_ready.m-high, six)) in
@@ -46,7 +46,7 @@ add_digits-y-requires c =
 
 pub loop-j-preserved : goal.loop-j-preserved
 loop-j-preserved c =
-    let here : PlaneReady c.args.body.now c.args.s.n (planes_in c.args.body.now c.args.planes c.loop-j.j) ((plane_no c.args.planes c.loop-j.j)) =
+    let here : PlaneReady c.args.body.now c.args.s.n (planes_in c.args.body.now c.args.planes c.loop-j.j) (plane_no c.args.planes c.loop-j.j) =
     c.requires.stack_ready.each c.loop-j.j c.loop-j-test.true in
     let fits : c.args.s.m ≤ length c.args.planes = (let six : length c.args.planes ≡ 6 = search rules in
     omega (arith, c.requires.stack_ready.m-high, six)) in
@@ -58,8 +58,8 @@ loop-j-preserved c =
       λ n each i g. level_next fits each c.args.message.now c.loop-j.j c.loop-j-test.true c.loop-j.invariant.3 i _ (at c.loop-j.x i)
           (at c.add_digits-y.result i) g (c.loop-j.invariant.4 n each i g)
           (c.add_digits-y.ensures.sum i (omega (arith, (each c.loop-j.j c.loop-j-test.true).code.long))
-          ∙ ap (λ (z : List ℕ). at c.loop-j.x i + at (encode_plane (plane_in c.args.body.now ((plane_no c.args.planes c.loop-j.j))) z) i *
-          ((plane_no c.args.planes c.loop-j.j)).w) (take_rest ((plane_no c.args.planes c.loop-j.j)).symbol c.args.message.now)),
+          ∙ ap (λ (z : List ℕ). at c.loop-j.x i + at (encode_plane (plane_in c.args.body.now (plane_no c.args.planes c.loop-j.j)) z) i *
+          (plane_no c.args.planes c.loop-j.j).w) (take_rest (plane_no c.args.planes c.loop-j.j).symbol c.args.message.now)),
     )
 
 pub returns : goal.returns

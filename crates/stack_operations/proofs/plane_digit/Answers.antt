@@ -13,14 +13,14 @@ returns-then-i-k c =
     let k = c.args.p.n - c.args.p.r in
     let l = length-take-le k c.args.symbols.now c.requires.symbols.0 in
     let b = each_at (λ v. v < c.args.p.m) (take k c.args.symbols.now) c.requires.symbols.1 c.args.i (omega arith) in (
-      c.wide.ensures.0 ∙ digit_front ((code_with c.args.p c.args.matrix.now)) c.args.symbols.now (omega arith) (omega arith) c.requires.symbols.0
+      c.wide.ensures.0 ∙ digit_front (code_with c.args.p c.args.matrix.now) c.args.symbols.now (omega arith) (omega arith) c.requires.symbols.0
           c.args.i (omega arith),
       omega (arith, get_or-take k c.args.symbols.now c.args.i 0 (omega arith)),
     )
 
 pub returns : goal.returns
 returns c = (
-  c.filling.ensures.0 ∙ digit_check ((code_with c.args.p c.args.matrix.now)) c.args.symbols.now (omega arith) (omega arith) c.requires.symbols.0
+  c.filling.ensures.0 ∙ digit_check (code_with c.args.p c.args.matrix.now) c.args.symbols.now (omega arith) (omega arith) c.requires.symbols.0
       c.args.i (omega arith) (omega arith),
   c.filling.ensures.1,
 )

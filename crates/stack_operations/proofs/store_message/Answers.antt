@@ -19,7 +19,7 @@ pub overflow_add-end : goal.overflow_add-end
 overflow_add-end c =
     let fits : c.args.s.m ≤ length c.args.planes = (let six : length c.args.planes ≡ 6 = search rules in
     omega (arith, c.requires.described.1.m-high, six)) in
-    let within : ((plane_no c.args.planes c.loop-j.j)).symbol + (c.args.s.n - ((plane_no c.args.planes c.loop-j.j)).parameters.r) ≤ length
+    let within : (plane_no c.args.planes c.loop-j.j).symbol + (c.args.s.n - (plane_no c.args.planes c.loop-j.j).parameters.r) ≤ length
     c.loop-j.out = omega (
       arith,
       symbols-high fits c.requires.described.1.each c.loop-j.j c.loop-j-test.true,
@@ -32,8 +32,8 @@ overflow_add-end c =
 
 pub digits-d-requires : goal.digits-d-requires
 digits-d-requires c =
-    let here : PlaneCode c.requires.described.0 c.args.s.n ((plane_no c.args.planes c.loop-j.j)).parameters
-    ((plane_no c.args.planes c.loop-j.j)).start ((plane_no c.args.planes c.loop-j.j)).end =
+    let here : PlaneCode c.requires.described.0 c.args.s.n (plane_no c.args.planes c.loop-j.j).parameters
+    (plane_no c.args.planes c.loop-j.j).start (plane_no c.args.planes c.loop-j.j).end =
     (c.requires.described.1.each c.loop-j.j c.loop-j-test.true).code in
     let fits : c.args.s.m ≤ length c.args.planes = (let six : length c.args.planes ≡ 6 = search rules in
     omega (arith, c.requires.described.1.m-high, six)) in (
@@ -46,7 +46,7 @@ pub slice_bounds-copy-end-in-loop-j : goal.slice_bounds-copy-end-in-loop-j
 slice_bounds-copy-end-in-loop-j c =
     let fits : c.args.s.m ≤ length c.args.planes = (let six : length c.args.planes ≡ 6 = search rules in
     omega (arith, c.requires.described.1.m-high, six)) in
-    let within : ((plane_no c.args.planes c.loop-j.j)).symbol + (c.args.s.n - ((plane_no c.args.planes c.loop-j.j)).parameters.r) ≤ length
+    let within : (plane_no c.args.planes c.loop-j.j).symbol + (c.args.s.n - (plane_no c.args.planes c.loop-j.j).parameters.r) ≤ length
     c.loop-j.out = omega (
       arith,
       symbols-high fits c.requires.described.1.each c.loop-j.j c.loop-j-test.true,
@@ -60,7 +60,7 @@ pub loop-j-preserved : goal.loop-j-preserved
 loop-j-preserved c =
     let fits : c.args.s.m ≤ length c.args.planes = (let six : length c.args.planes ≡ 6 = search rules in
     omega (arith, c.requires.described.1.m-high, six)) in
-    let within : ((plane_no c.args.planes c.loop-j.j)).symbol + (c.args.s.n - ((plane_no c.args.planes c.loop-j.j)).parameters.r) ≤ length
+    let within : (plane_no c.args.planes c.loop-j.j).symbol + (c.args.s.n - (plane_no c.args.planes c.loop-j.j).parameters.r) ≤ length
     c.loop-j.out = omega (
       arith,
       symbols-high fits c.requires.described.1.each c.loop-j.j c.loop-j-test.true,
@@ -68,29 +68,29 @@ loop-j-preserved c =
       c.requires.word_len.1,
       c.loop-j.invariant.1,
     ) in
-    let long : (c.args.s.n - ((plane_no c.args.planes c.loop-j.j)).parameters.r) ≤ length c.digits-d.result =
+    let long : (c.args.s.n - (plane_no c.args.planes c.loop-j.j).parameters.r) ≤ length c.digits-d.result =
     (let h = long_enough c.digits-d.result _ (length c.args.word.now) c.digits-d.ensures (digits-length _ _ c.args.word.now) in
     omega (arith, c.requires.word_len.0)) in
-    let same_size : length (take (((plane_no c.args.planes c.loop-j.j)).symbol + (c.args.s.n - ((plane_no c.args.planes c.loop-j.j)).parameters.r) -
-    ((plane_no c.args.planes c.loop-j.j)).symbol) (drop ((plane_no c.args.planes c.loop-j.j)).symbol c.loop-j.out))
-    ≡ (c.args.s.n - ((plane_no c.args.planes c.loop-j.j)).parameters.r) =
-    ap (λ (k : ℕ). length (take k (drop ((plane_no c.args.planes c.loop-j.j)).symbol c.loop-j.out)))
-    (add-sub_cancel_left ((plane_no c.args.planes c.loop-j.j)).symbol ((c.args.s.n - ((plane_no c.args.planes c.loop-j.j)).parameters.r)))
-    ∙ length-take-le ((c.args.s.n - ((plane_no c.args.planes c.loop-j.j)).parameters.r))
-    (drop ((plane_no c.args.planes c.loop-j.j)).symbol c.loop-j.out)
-    (omega (arith, length-drop ((plane_no c.args.planes c.loop-j.j)).symbol c.loop-j.out, within)) in
-    let stored : c.copy.new.to ≡ (take ((c.args.s.n - ((plane_no c.args.planes c.loop-j.j)).parameters.r))
-    (digits ((plane_no c.args.planes c.loop-j.j)).w ((plane_no c.args.planes c.loop-j.j)).parameters.m c.args.word.now)) = c.copy.ensures
-    ∙ sym (take-take ((c.args.s.n - ((plane_no c.args.planes c.loop-j.j)).parameters.r)) (length c.args.word.now) c.digits-d.result
-    (omega (arith, c.requires.word_len.0))) ∙ ap (take ((c.args.s.n - ((plane_no c.args.planes c.loop-j.j)).parameters.r))) c.digits-d.ensures in
+    let same_size : length (take ((plane_no c.args.planes c.loop-j.j).symbol + (c.args.s.n - (plane_no c.args.planes c.loop-j.j).parameters.r) -
+    (plane_no c.args.planes c.loop-j.j).symbol) (drop (plane_no c.args.planes c.loop-j.j).symbol c.loop-j.out))
+    ≡ (c.args.s.n - (plane_no c.args.planes c.loop-j.j).parameters.r) =
+    ap (λ (k : ℕ). length (take k (drop (plane_no c.args.planes c.loop-j.j).symbol c.loop-j.out)))
+    (add-sub_cancel_left (plane_no c.args.planes c.loop-j.j).symbol (c.args.s.n - (plane_no c.args.planes c.loop-j.j).parameters.r))
+    ∙ length-take-le (c.args.s.n - (plane_no c.args.planes c.loop-j.j).parameters.r)
+    (drop (plane_no c.args.planes c.loop-j.j).symbol c.loop-j.out)
+    (omega (arith, length-drop (plane_no c.args.planes c.loop-j.j).symbol c.loop-j.out, within)) in
+    let stored : c.copy.new.to ≡ (take (c.args.s.n - (plane_no c.args.planes c.loop-j.j).parameters.r)
+    (digits (plane_no c.args.planes c.loop-j.j).w (plane_no c.args.planes c.loop-j.j).parameters.m c.args.word.now)) = c.copy.ensures
+    ∙ sym (take-take (c.args.s.n - (plane_no c.args.planes c.loop-j.j).parameters.r) (length c.args.word.now) c.digits-d.result
+    (omega (arith, c.requires.word_len.0))) ∙ ap (take (c.args.s.n - (plane_no c.args.planes c.loop-j.j).parameters.r)) c.digits-d.ensures in
     let size = ap length c.copy.ensures ∙ length-take-le _ _ long in (
       search rules,
-      same_len_mid ((plane_no c.args.planes c.loop-j.j)).symbol
-          (((plane_no c.args.planes c.loop-j.j)).symbol + (c.args.s.n - ((plane_no c.args.planes c.loop-j.j)).parameters.r) -
-          ((plane_no c.args.planes c.loop-j.j)).symbol) c.loop-j.out c.copy.new.to (size ∙ sym same_size) ∙ c.loop-j.invariant.1,
+      same_len_mid (plane_no c.args.planes c.loop-j.j).symbol
+          ((plane_no c.args.planes c.loop-j.j).symbol + (c.args.s.n - (plane_no c.args.planes c.loop-j.j).parameters.r) -
+          (plane_no c.args.planes c.loop-j.j).symbol) c.loop-j.out c.copy.new.to (size ∙ sym same_size) ∙ c.loop-j.invariant.1,
       λ b each. stored_next fits each c.args.word.now c.loop-j.j c.loop-j-test.true _ c.loop-j.out c.copy.new.to
-          (((plane_no c.args.planes c.loop-j.j)).symbol + (c.args.s.n - ((plane_no c.args.planes c.loop-j.j)).parameters.r) -
-          ((plane_no c.args.planes c.loop-j.j)).symbol)
+          ((plane_no c.args.planes c.loop-j.j).symbol + (c.args.s.n - (plane_no c.args.planes c.loop-j.j).parameters.r) -
+          (plane_no c.args.planes c.loop-j.j).symbol)
           (c.loop-j.invariant.2 b each) stored size (omega (arith, within)),
     )
 

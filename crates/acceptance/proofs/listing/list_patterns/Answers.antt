@@ -5,8 +5,6 @@ use Rattle.acceptance.proofs.Storing.{store_none, store_as, store_both}
 use Rattle.acceptance.proofs.Weights.{lighter_none, lighter_more, lighter_all, room}
 use Rattle.acceptance.proofs.listing.list_patterns.Goals as goal
 
--- The invariant: the keys of the patterns of fewer than w risen cells are stored.
-
 pub loop-w-init : goal.loop-w-init
 loop-w-init c = (search rules, store_none _ _ _ (lighter_none c.args.p c.args.columns.now))
 

@@ -7,8 +7,6 @@ use lib.ListN.{length-set}
 use Rattle.acceptance.proofs.Raising.{none_raised, one_more, all_raised, raised-small}
 use Rattle.acceptance.proofs.listing.raise.Goals as goal
 
--- The invariant: the entries below k are raised.
-
 pub loop-k-init : goal.loop-k-init
 loop-k-init c = (search rules, c.requires.within.3, none_raised _ _ _ _)
 

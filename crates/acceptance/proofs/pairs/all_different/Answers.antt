@@ -7,8 +7,6 @@ use Rattle.acceptance.proofs.Tree.{tree_none, tree_more}
 use Rattle.acceptance.proofs.Different.{clash, new_more, all_new}
 use Rattle.acceptance.proofs.pairs.all_different.Goals as goal
 
--- The invariant: the first i pairs stand in the tree, and these are all different.
-
 pub loop-i-init : goal.loop-i-init
 loop-i-init c = (search rules, refl, refl, tree_none _ 12288, (λ k h. absurd (not-suc-le-zero h)))
 

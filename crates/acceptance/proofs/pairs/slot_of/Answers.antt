@@ -3,8 +3,6 @@ use native.Mathlib.Omega.{arith}
 use Rattle.acceptance.proofs.Tree.{walk_start, walk_on, walk_free, further}
 use Rattle.acceptance.proofs.pairs.slot_of.Goals as goal
 
--- The invariant: the walk has come to slot s, which holds the number j.
-
 pub loop-j-init : goal.loop-j-init
 loop-j-init c = (
   omega (arith, c.bucket-s.ensures.1),
