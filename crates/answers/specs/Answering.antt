@@ -1,23 +1,14 @@
--- What the answers of the operations mean in the documents' numbers and values.
-use Rattle.std.specs.Prelude.{List, ℕ}
-use Rattle.std.proofs.Math.Option.{Option, none, some}
-use Rattle.definitions.specs.Answers.{Answer, given, refused, refused_at, Result}
+-- What the answers of the operations mean in numbers and values.
+use Rattle.std.specs.Prelude.{List, ◌++◌, ℕ, Result, Ok, Err, Option, None, Some, codes}
+use Rattle.std.specs.Fmt.{decimal}
+use Rattle.definitions.specs.Answers as answers
+use Rattle.definitions.specs.Answers.{Answer, given, refused, refused_at}
 use Rattle.answers.specs.declared.Refusal.{Refusal}
 use Rattle.answers.specs.declared.Refusal.TheVariants as refusal
-use Rattle.answers.specs.declared.TestAnswer.{TestAnswer}
-use Rattle.answers.specs.declared.TestAnswer.TheVariants as test
-use Rattle.answers.specs.declared.WriteAnswer.{WriteAnswer}
-use Rattle.answers.specs.declared.WriteAnswer.TheVariants as write
-use Rattle.answers.specs.declared.ReadAnswer.{ReadAnswer}
-use Rattle.answers.specs.declared.ReadAnswer.TheVariants as read
-use Rattle.answers.specs.declared.SizeAnswer.{SizeAnswer}
-use Rattle.answers.specs.declared.SizeAnswer.TheVariants as size
-use Rattle.answers.specs.declared.NumberAnswer.{NumberAnswer}
-use Rattle.answers.specs.declared.NumberAnswer.TheVariants as message-number
 use Rattle.answers.specs.declared.Outcome.{Outcome}
 use Rattle.answers.specs.declared.Outcome.TheVariants as outcome
 
--- a refusal's number: document 01's, and from 17 on document 02's
+-- a refusal's number
 abbrev pub refusal_number : Refusal → ℕ
 refusal_number refusal.TooShort = 1
 refusal_number refusal.OutOfRange = 2
@@ -40,67 +31,54 @@ refusal_number refusal.TooManyMessages = 17
 refusal_number refusal.NumberTooLarge = 18
 refusal_number refusal.LeftoverBitSet = 19
 
--- "stack reading's 11 adds the plane"
+-- the plane that a stack's 11 adds
 abbrev pub refusal_plane : Refusal → Option ℕ
-refusal_plane refusal.TooShort = none
-refusal_plane refusal.OutOfRange = none
-refusal_plane refusal.WrongLength = none
-refusal_plane refusal.EntryTooLarge = none
-refusal_plane refusal.TooManyPatterns = none
-refusal_plane refusal.NotAccepted = none
-refusal_plane refusal.TooManyLevels = none
-refusal_plane refusal.WrongBuffer = none
-refusal_plane refusal.SymbolTooLarge = none
-refusal_plane refusal.LevelTooLarge = none
-refusal_plane refusal.NoCodewordInReach = none
-refusal_plane (refusal.NoPatternInPlane j) = some j
-refusal_plane refusal.NotACodeword = none
-refusal_plane refusal.NotAPermutation = none
-refusal_plane refusal.NotAPowerOfTwo = none
-refusal_plane refusal.WrongContents = none
-refusal_plane refusal.WrongBody = none
-refusal_plane refusal.TooManyMessages = none
-refusal_plane refusal.NumberTooLarge = none
-refusal_plane refusal.LeftoverBitSet = none
+refusal_plane (refusal.NoPatternInPlane j) = Some j
+refusal_plane x = None
+
+-- a refusal in words
+abbrev pub refusal_words : Refusal → List ℕ
+refusal_words refusal.TooShort = codes "a body too short for its fields"
+refusal_words refusal.OutOfRange = codes "a field, length, kind or entry out of range"
+refusal_words refusal.WrongLength = codes "a body of another length than its fields ask"
+refusal_words refusal.EntryTooLarge = codes "an entry of the matrix of M or more"
+refusal_words refusal.TooManyPatterns = codes "more than 4,096 patterns"
+refusal_words refusal.NotAccepted = codes "not accepted: two patterns share a syndrome"
+refusal_words refusal.TooManyLevels = codes "a stack of more than 64 levels"
+refusal_words refusal.WrongBuffer = codes "a buffer not of its exact length"
+refusal_words refusal.SymbolTooLarge = codes "a symbol too large"
+refusal_words refusal.LevelTooLarge = codes "a level, or a state, of q or more"
+refusal_words refusal.NoCodewordInReach = codes "no codeword within reach"
+refusal_words (refusal.NoPatternInPlane j) = codes "no codeword within reach: no pattern in plane " ++ decimal j
+refusal_words refusal.NotACodeword = codes "not a codeword"
+refusal_words refusal.NotAPermutation = codes "a label table that is no permutation"
+refusal_words refusal.NotAPowerOfTwo = codes "q or floor(q/M) is no power of two"
+refusal_words refusal.WrongContents = codes "an image whose contents are wrong"
+refusal_words refusal.WrongBody = codes "a body refused by its test, or a reference"
+refusal_words refusal.TooManyMessages = codes "more than 2^63 messages"
+refusal_words refusal.NumberTooLarge = codes "a number that no message has"
+refusal_words refusal.LeftoverBitSet = codes "a leftover bit of the last byte is set"
 
 module _ {A : Type 0} where
-  abbrev pub with_plane : ℕ → Option ℕ → Answer A
-  with_plane k none = refused k
-  with_plane k (some j) = refused_at k j
-
-  -- a refusal as an answer
+  -- a refusal as an answer; the plane goes with a stack's 11
   abbrev pub refused_as : Refusal → Answer A
-  refused_as x = with_plane (refusal_number x) (refusal_plane x)
+  refused_as (refusal.NoPatternInPlane j) = refused_at 11 j
+  refused_as x = refused (refusal_number x)
+
+  -- what an operation answered, whatever it gives
+  abbrev pub answer_of : Result A Refusal → Answer A
+  answer_of (Ok a) = given a
+  answer_of (Err x) = refused_as x
+
+  -- the same, with what is given as the definitions have it
+  abbrev pub answer_with : {B : Type 0} → (B → A) → Result B Refusal → Answer A
+  answer_with f (Ok b) = given (f b)
+  answer_with f (Err x) = refused_as x
 
   -- an answer with what the output buffer holds
-  abbrev pub leaves : Answer A → List ℕ → Result A
+  abbrev pub leaves : Answer A → List ℕ → answers.Result A
   leaves a out = record { answer = a; out = out }
-
-abbrev pub tested_as : TestAnswer → Answer (Unit {0})
-tested_as test.Accepted = given tt
-tested_as (test.Refused x) = refused_as x
-
-abbrev pub written_as : WriteAnswer → Answer (Unit {0})
-written_as write.Written = given tt
-written_as (write.Refused x) = refused_as x
-
-abbrev pub read_as : ReadAnswer → Answer ℕ
-read_as (read.Count count tried) = given count
-read_as (read.Refused x) = refused_as x
-
--- how many patterns were tried, which goes with a count
-abbrev pub tried_as : ReadAnswer → Answer ℕ
-tried_as (read.Count count tried) = given tried
-tried_as (read.Refused x) = refused_as x
 
 abbrev pub outcome_as : Outcome → Answer ℕ
 outcome_as (outcome.Count k) = given k
 outcome_as (outcome.Refused x) = refused_as x
-
-abbrev pub sized_as : SizeAnswer → Answer ℕ
-sized_as (size.Size k) = given k
-sized_as (size.Refused x) = refused_as x
-
-abbrev pub number_as : NumberAnswer → Answer ℕ
-number_as (message-number.Number x) = given x
-number_as (message-number.Refused x) = refused_as x

@@ -1,2 +1,2 @@
--- what the answers of the operations mean in document 01's numbers and values
+-- what the answers of the operations mean in numbers and values
 pub mod Answering

@@ -1,23 +1,25 @@
-// What the operations answer, once for all of them, and the test of their buffers.
+// What the operations answer, once for all of them: a `Result` with the refusal as its error. And the test of their buffers.
 #![tactic(auto)]
 
-ghost use Rattle.std.specs.Prelude.{◌≡◌, ◌&&◌, eqb};
-ghost use Rattle.answers.specs.Answering.{refusal_number};
+ghost use Rattle.std.specs.Prelude.{◌≡◌, ◌&&◌, eqb, Result, Some};
 
-// Why an operation declines: document 01's numbers 1 to 16, and document 02's.
-#[derive(Clone, Copy)]
+use std::error::Error;
+use std::fmt;
+
+// Why an operation declines. `number` has the numbers, `Display` the words.
+#[derive(Clone, Copy, Debug, PartialEq, Eq)]
 pub enum Refusal {
-    // 1: too few bytes for the fields
+    // 1: a body too short for its fields
     TooShort,
-    // 2: a field, a table's length, a kind or an entry number out of range
+    // 2: a field, length, kind or entry out of range
     OutOfRange,
-    // 3: a description of another length than its fields ask for
+    // 3: a body of another length than its fields ask
     WrongLength,
     // 4: an entry of the matrix of M or more
     EntryTooLarge,
     // 5: more than 4,096 patterns
     TooManyPatterns,
-    // 6: two patterns with one syndrome
+    // 6: not accepted: two patterns share a syndrome
     NotAccepted,
     // 7: a stack of more than 64 levels
     TooManyLevels,
@@ -29,102 +31,126 @@ pub enum Refusal {
     LevelTooLarge,
     // 11, of a code: no codeword within reach
     NoCodewordInReach,
-    // 11, of a stack: the plane, from 0, in which no pattern has the syndrome
+    // 11, of a stack, with the plane, from 0: in which no pattern has the syndrome
     NoPatternInPlane(usize),
     // 12: not a codeword
     NotACodeword,
     // 13: a label table that is no permutation
     NotAPermutation,
-    // 14: q, or floor(q / M), is no power of two
+    // 14: q or floor(q/M) is no power of two
     NotAPowerOfTwo,
-    // 15: an image whose contents are not as document 01 says
+    // 15: an image whose contents are wrong
     WrongContents,
-    // 16: a body that its test refuses, or a wrong reference
+    // 16: a body refused by its test, or a reference
     WrongBody,
-    // 17: the product of the radices is above 2^63
+    // 17: more than 2^63 messages
     TooManyMessages,
-    // 18: a number not below the product of the radices
+    // 18: a number that no message has
     NumberTooLarge,
     // 19: a leftover bit of the last byte is set
     LeftoverBitSet,
 }
 
-// Its number.
-pub fn refusal_number(x: Refusal) -> usize
-    ensures { result ≡ refusal_number x }
-{
-    match x {
-        Refusal::TooShort => 1,
-        Refusal::OutOfRange => 2,
-        Refusal::WrongLength => 3,
-        Refusal::EntryTooLarge => 4,
-        Refusal::TooManyPatterns => 5,
-        Refusal::NotAccepted => 6,
-        Refusal::TooManyLevels => 7,
-        Refusal::WrongBuffer => 8,
-        Refusal::SymbolTooLarge => 9,
-        Refusal::LevelTooLarge => 10,
-        Refusal::NoCodewordInReach => 11,
-        Refusal::NoPatternInPlane(_) => 11,
-        Refusal::NotACodeword => 12,
-        Refusal::NotAPermutation => 13,
-        Refusal::NotAPowerOfTwo => 14,
-        Refusal::WrongContents => 15,
-        Refusal::WrongBody => 16,
-        Refusal::TooManyMessages => 17,
-        Refusal::NumberTooLarge => 18,
-        Refusal::LeftoverBitSet => 19,
+impl Refusal {
+    ghost use Rattle.answers.specs.Answering.{refusal_number, refusal_plane};
+
+    // Its number.
+    pub fn number(self) -> usize
+        ensures { result ≡ refusal_number self }
+    {
+        match self {
+            Refusal::TooShort => 1,
+            Refusal::OutOfRange => 2,
+            Refusal::WrongLength => 3,
+            Refusal::EntryTooLarge => 4,
+            Refusal::TooManyPatterns => 5,
+            Refusal::NotAccepted => 6,
+            Refusal::TooManyLevels => 7,
+            Refusal::WrongBuffer => 8,
+            Refusal::SymbolTooLarge => 9,
+            Refusal::LevelTooLarge => 10,
+            Refusal::NoCodewordInReach | Refusal::NoPatternInPlane(_) => 11,
+            Refusal::NotACodeword => 12,
+            Refusal::NotAPermutation => 13,
+            Refusal::NotAPowerOfTwo => 14,
+            Refusal::WrongContents => 15,
+            Refusal::WrongBody => 16,
+            Refusal::TooManyMessages => 17,
+            Refusal::NumberTooLarge => 18,
+            Refusal::LeftoverBitSet => 19,
+        }
+    }
+
+    // The plane that a stack's 11 adds.
+    pub fn plane(self) -> Option<usize>
+        ensures { result ≡ refusal_plane self }
+    {
+        match self {
+            Refusal::NoPatternInPlane(j) => Some(j),
+            _ => None,
+        }
     }
 }
 
-// Testing a code, a stack or an image.
-#[derive(Clone, Copy)]
-pub enum TestAnswer {
-    Accepted,
-    Refused(Refusal),
+impl fmt::Display for Refusal {
+    ghost use Rattle.answers.specs.Answering.{refusal_words};
+    ghost use Rattle.std.specs.Prelude.{Some};
+
+    ghost output = { λ x. Some (refusal_words x) };
+
+    fn fmt<W: fmt::Write>(&self, f: &mut fmt::Formatter<W>) -> fmt::Result {
+        match self {
+            Refusal::TooShort => write!(f, "a body too short for its fields"),
+            Refusal::OutOfRange => write!(f, "a field, length, kind or entry out of range"),
+            Refusal::WrongLength => write!(f, "a body of another length than its fields ask"),
+            Refusal::EntryTooLarge => write!(f, "an entry of the matrix of M or more"),
+            Refusal::TooManyPatterns => write!(f, "more than 4,096 patterns"),
+            Refusal::NotAccepted => write!(f, "not accepted: two patterns share a syndrome"),
+            Refusal::TooManyLevels => write!(f, "a stack of more than 64 levels"),
+            Refusal::WrongBuffer => write!(f, "a buffer not of its exact length"),
+            Refusal::SymbolTooLarge => write!(f, "a symbol too large"),
+            Refusal::LevelTooLarge => write!(f, "a level, or a state, of q or more"),
+            Refusal::NoCodewordInReach => write!(f, "no codeword within reach"),
+            Refusal::NoPatternInPlane(j) => {
+                write!(f, "no codeword within reach: no pattern in plane {j}")
+            }
+            Refusal::NotACodeword => write!(f, "not a codeword"),
+            Refusal::NotAPermutation => write!(f, "a label table that is no permutation"),
+            Refusal::NotAPowerOfTwo => write!(f, "q or floor(q/M) is no power of two"),
+            Refusal::WrongContents => write!(f, "an image whose contents are wrong"),
+            Refusal::WrongBody => write!(f, "a body refused by its test, or a reference"),
+            Refusal::TooManyMessages => write!(f, "more than 2^63 messages"),
+            Refusal::NumberTooLarge => write!(f, "a number that no message has"),
+            Refusal::LeftoverBitSet => write!(f, "a leftover bit of the last byte is set"),
+        }
+    }
 }
 
-// Writing to an output buffer.
-#[derive(Clone, Copy)]
-pub enum WriteAnswer {
-    Written,
-    Refused(Refusal),
-}
+impl Error for Refusal {}
 
-// Reading a word of a code; tried is how many patterns were tried, up to the given one.
-#[derive(Clone, Copy)]
-pub enum ReadAnswer {
-    Count { count: usize, tried: usize },
-    Refused(Refusal),
-}
-
-// Reading a word of a stack, and what a row's record holds: a count or a refusal.
-#[derive(Clone, Copy)]
+// What a row's record holds: a count or a refusal.
+#[derive(Clone, Copy, Debug, PartialEq, Eq)]
 pub enum Outcome {
     Count(usize),
     Refused(Refusal),
 }
 
-// A size that a caller needs before a call.
-#[derive(Clone, Copy)]
-pub enum SizeAnswer {
-    Size(usize),
-    Refused(Refusal),
-}
+impl From<Result<usize, Refusal>> for Outcome {
+    ghost use Rattle.answers.specs.Answering.{answer_of, outcome_as};
 
-// The number of a message.
-#[derive(Clone, Copy)]
-pub enum NumberAnswer {
-    Number(u64),
-    Refused(Refusal),
+    fn from(answer: Result<usize, Refusal>) -> Outcome
+        ensures { outcome_as result ≡ answer_of answer }
+    {
+        match answer {
+            Ok(count) => Outcome::Count(count),
+            Err(why) => Outcome::Refused(why),
+        }
+    }
 }
 
 // Whether an operation's input and output have the lengths that are read and written.
 pub fn buffers_fit(input: usize, read: usize, output: usize, written: usize) -> bool
     ensures { result ≡ (eqb input read && eqb output written) }
 {
-    if input != read {
-        return false;
-    }
-    output == written
+    input == read && output == written
 }

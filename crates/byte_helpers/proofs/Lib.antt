@@ -1,4 +1,2 @@
--- the largest of some bytes decides whether all are below a bound
+-- nothing is below 0
 pub mod Below
--- bounds of products of levels
-pub mod Products

@@ -1,51 +1,31 @@
-// Opening a description: from its bytes to a code's parameters and the place of its matrix, or to a refusal.
+// Opening a description: from its bytes to a code as one value, or to a refusal. An opened code has its syndromes as methods.
 #![tactic(auto)]
 
-ghost use Rattle.std.specs.Prelude.{◌≡◌, true, List, ℕ, suc, ◌+◌, ◌*◌, ◌^◌, ◌-◌, ◌≤◌, ◌<◌, length, drop};
-ghost use Rattle.definitions.specs.Words.{sum_to};
-ghost use Rattle.definitions.specs.Codes.{code_of};
-ghost use Rattle.definitions.specs.Patterns.{binomial};
+ghost use Rattle.std.specs.Prelude.{◌≡◌, true, List, ℕ, suc, ◌+◌, ◌*◌, ◌^◌, ◌-◌, ◌≤◌, ◌<◌, length};
+ghost use Rattle.definitions.specs.Words.{sum_to, all_below, all_zero};
+ghost use Rattle.definitions.specs.Codewords.{syndrome_entry, syndrome};
+ghost use Rattle.definitions.specs.Patterns.{binomial, pattern_count};
 ghost use Rattle.definitions.specs.CodeOperations.{in_range, open_code};
-ghost use Rattle.answers.specs.declared.Refusal.{Refusal};
-ghost use Rattle.opening.specs.Opening.{code_with, part, opened_as, Placed, matrix_tested};
+ghost use Rattle.syndrome.specs.Columns.{column, Syndrome, filling_of};
 
 use answers::Refusal;
 
-// The parameters of a code; m is document 01's M. The matrix stays in the lent description.
+// An opened code or plane; m is the modulus M. The matrix, r rows of n - r entries, lies in the lent description.
 #[derive(Clone, Copy)]
-pub struct Parameters {
+pub struct Code<'a> {
     pub n: usize,
     pub r: usize,
     pub q: usize,
     pub m: usize,
     pub l: usize,
     pub t: usize,
-}
-
-// An opened code or plane: its parameters, and where its matrix starts and ends in the lent description.
-#[derive(Clone, Copy)]
-pub enum Opened {
-    Open {
-        parameters: Parameters,
-        start: usize,
-        end: usize,
-    },
-    Refused(Refusal),
-}
-
-// The refusal of a description that did not open.
-pub fn why_refused(o: Opened) -> Refusal
-    requires { (x : Refusal) × (o ≡ Opened.Refused x) }
-    ensures { o ≡ Opened.Refused result }
-{
-    match o {
-        Opened::Refused(x) => x,
-        Opened::Open {
-            parameters: _,
-            start: _,
-            end: _,
-        } => Refusal::TooShort,
-    }
+    pub matrix: &'a [u8],
+    pub ghost cells: { (1 ≤ n) × (n ≤ 64) × (r ≤ 12) × (r < n) },
+    pub ghost levels: { (2 ≤ m) × (m ≤ q) × (q ≤ 64) },
+    pub ghost errors: { (1 ≤ l) × (l < m) × (t ≤ 3) × (t ≤ n) },
+    pub ghost size: { length matrix.now ≡ r * (n - r) },
+    pub ghost entries: { all_below m matrix.now ≡ true },
+    pub ghost few: { pattern_count (record { n = n; r = r; q = q; M = m; l = l; t = t; A = matrix.now }) ≤ 4096 },
 }
 
 // The number of patterns with i + 1 risen cells, from that of those with i: one of the n - i other cells rises by one of l
@@ -59,7 +39,7 @@ fn next_term(term: u64, n: usize, l: usize, i: usize) -> u64
     term * (more as u64) / (i as u64 + 1)
 }
 
-// Document 01's P for n cells, magnitudes 1 to l and at most t risen cells. Before its bound is tested it can need 34 bits.
+// The number P of patterns of n cells with magnitudes 1 to l and at most t risen cells. Before its bound is tested it can need 34 bits.
 pub fn pattern_count(n: usize, l: usize, t: usize) -> u64
     requires { (n ≤ 64) × (l ≤ 63) × (t ≤ 3) × (t ≤ n) }
     ensures { result ≡ sum_to (suc t) (λ i. binomial n i * l ^ i) }
@@ -78,59 +58,23 @@ pub fn pattern_count(n: usize, l: usize, t: usize) -> u64
     1 + one + two + next_term(two, n, l, 2)
 }
 
-// Document 01's ranges, which do not look at the matrix.
-fn in_range(p: Parameters) -> bool
-    ensures { (A : List ℕ) → result ≡ in_range (code_with p A) }
+// The ranges of the six fields, which do not look at the matrix.
+#[tactic(auto, unfolding(definitions::specs::CodeOperations::in_range))]
+fn in_range(n: usize, r: usize, q: usize, m: usize, l: usize, t: usize) -> bool
+    ensures { (A : List ℕ) → result ≡ in_range (record { n = n; r = r; q = q; M = m; l = l; t = t; A = A }) }
 {
-    if p.n < 1 {
-        return false;
-    }
-    if 64 < p.n {
-        return false;
-    }
-    if 12 < p.r {
-        return false;
-    }
-    if p.n <= p.r {
-        return false;
-    }
-    if p.q < 2 {
-        return false;
-    }
-    if 64 < p.q {
-        return false;
-    }
-    if p.m < 2 {
-        return false;
-    }
-    if p.q < p.m {
-        return false;
-    }
-    if p.l < 1 {
-        return false;
-    }
-    if p.m <= p.l {
-        return false;
-    }
-    if 3 < p.t {
-        return false;
-    }
-    p.t <= p.n
-}
-
-// The six fields before the matrix.
-fn fields(body: &[u8]) -> Parameters
-    requires { 6 ≤ length body.now }
-    ensures { code_with result (drop 6 body.now) ≡ code_of body.now }
-{
-    Parameters {
-        n: byte_helpers::wide(body[0]),
-        r: byte_helpers::wide(body[1]),
-        q: byte_helpers::wide(body[2]),
-        m: byte_helpers::wide(body[3]),
-        l: byte_helpers::wide(body[4]),
-        t: byte_helpers::wide(body[5]),
-    }
+    1 <= n
+        && n <= 64
+        && r <= 12
+        && r < n
+        && 2 <= q
+        && q <= 64
+        && 2 <= m
+        && m <= q
+        && 1 <= l
+        && l <= m - 1
+        && t <= 3
+        && t <= n
 }
 
 // The number of entries of a matrix: r rows of n - r.
@@ -141,45 +85,118 @@ pub fn matrix_size(n: usize, r: usize) -> usize
     r * (n - r)
 }
 
-// The last tests of an opening, of the matrix of a code or a plane whose fields are in range.
-#[tactic(auto, unfolding(definitions::specs::Patterns::pattern_count))]
-pub fn open_matrix(body: &[u8], parameters: Parameters, start: usize, end: usize) -> Opened
-    requires range { (A : List ℕ) → in_range (code_with parameters A) ≡ true }
-    requires size { end ≡ start + parameters.r * (parameters.n - parameters.r) }
-    requires within { end ≤ length body.now }
-    ensures opened { opened_as body.now result ≡ matrix_tested (code_with parameters (part body.now start end)) }
-    ensures placed { Placed body.now start end result }
-{
-    let p = parameters;
-    if !byte_helpers::all_below(p.m, &body[start..end]) {
-        return Opened::Refused(Refusal::EntryTooLarge);
-    }
-    if 4096 < pattern_count(p.n, p.l, p.t) {
-        return Opened::Refused(Refusal::TooManyPatterns);
-    }
-    Opened::Open {
-        parameters,
-        start,
-        end,
-    }
-}
+impl<'a> Code<'a> {
+    ghost use Rattle.opening.specs.Viewed.{code, opened_as, matrix_tested};
 
-// Open a code's description. The first refusal in document 01's order is the answer.
-#[tactic(auto, unfolding(definitions::specs::CodeOperations::open_code))]
-pub fn open(body: &[u8]) -> Opened
-    ensures opened { opened_as body.now result ≡ open_code body.now }
-    ensures placed { Placed body.now 6 (length body.now) result }
-{
-    if body.len() < 6 {
-        return Opened::Refused(Refusal::TooShort);
+    // Open a code's description: the six fields, then the matrix. The answer is the first refusal of 1, 2, 3, 4 and 5 whose case holds.
+    pub fn open(body: &'a [u8]) -> Result<Code<'a>, Refusal>
+        ensures { opened_as result ≡ open_code body.now }
+    {
+        if body.len() < 6 {
+            return Err(Refusal::TooShort);
+        }
+        let n = usize::from(body[0]);
+        let r = usize::from(body[1]);
+        let q = usize::from(body[2]);
+        let m = usize::from(body[3]);
+        let l = usize::from(body[4]);
+        let t = usize::from(body[5]);
+        if !in_range(n, r, q, m, l, t) {
+            return Err(Refusal::OutOfRange);
+        }
+        if body.len() != 6 + matrix_size(n, r) {
+            return Err(Refusal::WrongLength);
+        }
+        Code::with_matrix(n, r, q, m, l, t, &body[6..])
     }
-    let p = fields(body);
-    if !in_range(p) {
-        return Opened::Refused(Refusal::OutOfRange);
+
+    // The last tests of an opening, 4 and 5, of the matrix of a code or a plane whose fields are in range.
+    #[tactic(auto, unfolding(definitions::specs::Patterns::pattern_count))]
+    pub fn with_matrix(
+        n: usize,
+        r: usize,
+        q: usize,
+        m: usize,
+        l: usize,
+        t: usize,
+        matrix: &'a [u8],
+    ) -> Result<Code<'a>, Refusal>
+        requires range { in_range (record { n = n; r = r; q = q; M = m; l = l; t = t; A = matrix.now }) ≡ true }
+        requires size { length matrix.now ≡ r * (n - r) }
+        ensures { opened_as result ≡ matrix_tested (record { n = n; r = r; q = q; M = m; l = l; t = t; A = matrix.now }) }
+    {
+        if !byte_helpers::all_below(m, matrix) {
+            return Err(Refusal::EntryTooLarge);
+        }
+        if 4096 < pattern_count(n, l, t) {
+            return Err(Refusal::TooManyPatterns);
+        }
+        Ok(Code {
+            n,
+            r,
+            q,
+            m,
+            l,
+            t,
+            matrix,
+        })
     }
-    let end = 6 + matrix_size(p.n, p.r);
-    if body.len() != end {
-        return Opened::Refused(Refusal::WrongLength);
+
+    // Entry i + 1 of a word's syndrome.
+    #[tactic(auto, unfolding(definitions::specs::Codewords::syndrome_entry))]
+    pub fn syndrome_entry(&self, word: &[u8], i: usize) -> u8
+        requires { (length word.now ≡ self.now.n) × (i < self.now.r) }
+        ensures { result ≡ syndrome_entry (code self.now) word.now i }
+    {
+        let w = self.n - self.r;
+        let sum = syndrome::row_sum(self.matrix, word, i * w, w);
+        ((sum + usize::from(word[w + i])) % self.m) as u8
     }
-    open_matrix(body, p, 6, end)
+
+    // The syndrome of a word; its entries from r on are 0.
+    pub fn syndrome(&self, word: &[u8]) -> [u8; 12]
+        requires { length word.now ≡ self.now.n }
+        ensures { Syndrome (code self.now) word.now result }
+    {
+        let mut s = [0u8; 12];
+        for i in 0..self.r {
+            s[i] = self.syndrome_entry(word, i);
+        }
+        s
+    }
+
+    // Entry i of the column of a cell: the matrix's, or a check cell's unit column.
+    pub fn column(&self, i: usize, cell: usize) -> usize
+        requires { i < self.now.r }
+        ensures { (result ≡ column (code self.now) i cell) × (result < self.now.m) }
+    {
+        let w = self.n - self.r;
+        if cell < w {
+            return usize::from(self.matrix[i * w + cell]);
+        }
+        if cell == w + i { 1 } else { 0 }
+    }
+
+    // Whether all r entries of the word's syndrome are 0.
+    pub fn has_zero_syndrome(&self, word: &[u8]) -> bool
+        requires { length word.now ≡ self.now.n }
+        ensures { result ≡ all_zero (syndrome (code self.now) word.now) }
+    {
+        for i in 0..self.r {
+            if self.syndrome_entry(word, i) != 0 {
+                return false;
+            }
+        }
+        true
+    }
+
+    // What the level of check cell i + 1 is modulo m, so that it makes the syndrome's entry i 0.
+    pub fn filling(&self, symbols: &[u8], i: usize) -> usize
+        requires { (self.now.n - self.now.r ≤ length symbols.now) × (i < self.now.r) }
+        ensures { (result ≡ filling_of (code self.now) symbols.now i) × (result < self.now.m) }
+    {
+        let w = self.n - self.r;
+        let sum = syndrome::row_sum(self.matrix, symbols, i * w, w);
+        (self.m - sum % self.m) % self.m
+    }
 }
