@@ -1,55 +1,31 @@
 // The program cartlist: an image on standard input, a line for each row entry on standard output.
 #![tactic(auto)]
 
-ghost use Rattle.std.specs.Prelude.{◌+◌, ◌≤◌, length};
-ghost use Rattle.cartlist.specs.Input.{Within};
+ghost use Rattle.std.specs.Prelude.{◌≡◌, ◌≤◌, length, IfOk};
 
-use answers::Outcome;
 use std::io::{self, Read};
 
-// What was read, or that a read failed.
-#[derive(Drop)]
-enum Input {
-    Bytes(usize),
-    Failed,
-}
-
-// One read, behind the bytes that are there.
-fn read_more<R: Read>(reader: &mut R, input: &mut [u8], from: usize) -> Input
-    requires { from ≤ length input.old }
-    ensures { Within from result input.new }
-{
-    let rest = &mut input[from..];
-    match reader.read(rest) {
-        Ok(k) => Input::Bytes(k),
-        Err(_) => Input::Failed,
-    }
-}
-
-// Reads until the input ends or the buffer is full, however small the pieces.
-fn read_image<R: Read>(reader: &mut R, input: &mut [u8]) -> Input
-    ensures { Within 0 result input.new }
+// Reads until the input ends or the buffer is full, however small the pieces; how many bytes were read. The buffer is of one fixed length,
+// so that the program asks for no memory; how much a read gives is not known before it, so that no range counts the turns.
+fn read_image<R: Read>(reader: &mut R, input: &mut [u8]) -> io::Result<usize>
+    ensures { IfOk result (λ n. n ≤ length input.new) }
 {
     let mut n = 0;
     while n < input.len() {
-        let more = read_more(reader, input, n);
-        let Input::Bytes(k) = more else {
-            return Input::Failed;
-        };
-        if k == 0 {
-            return Input::Bytes(n);
+        let more = reader.read(&mut input[n..])?;
+        if more == 0 {
+            return Ok(n);
         }
-        n += k;
+        n += more;
     }
-    Input::Bytes(n)
+    Ok(n)
 }
 
 // What cartlist prints for an image. An output that is closed ends the program without a word.
 fn print_lines(rt: &impl Print, image: &[u8]) {
     let mut lines = [0u8; 8192];
-    let a = listing::list(image, &mut lines);
-    if let Outcome::Count(k) = a {
-        let _ = rt.write_all(&lines[..k]);
+    if let Ok(length) = listing::list(image, &mut lines) {
+        let _ = rt.write_all(&lines[..length]);
     }
 }
 
@@ -57,8 +33,7 @@ fn print_lines(rt: &impl Print, image: &[u8]) {
 // word.
 fn main(rt: HostRuntime) -> io::Result<()> {
     let mut input = [0u8; 65536];
-    let got = read_image(&mut rt.reader(), &mut input);
-    if let Input::Bytes(n) = got {
+    if let Ok(n) = read_image(&mut rt.reader(), &mut input) {
         print_lines(&rt, &input[..n]);
     }
     Ok(())

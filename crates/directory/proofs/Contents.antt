@@ -1,13 +1,13 @@
 -- What right contents show: where the entries and the bodies stand.
-use mathlib.Core.Path.{◌≡◌, sym, ap, subst}
-use mathlib.Core.Bool.{true, false, and-false}
+use mathlib.Core.Path.{◌≡◌, sym, subst, ◌∙◌}
+use mathlib.Core.Bool.{true}
 use mathlib.Core.List.{List, [], ◌∷◌}
-use Prim.Native.Nat.{ℕ, zero, suc, ◌+◌, ◌*◌, ◌-◌, ◌≤◌, ◌<◌}
+use Prim.Native.Nat.{ℕ, zero, suc, ◌+◌, ◌≤◌, ◌<◌}
 use native.Mathlib.Decide.{dec_lt}
 use native.Mathlib.Omega.{arith}
-use borrow.Author.Tests.{le-leb, lt-leb}
+use borrow.Author.Tests.{eq-eqb}
 use lib.Dec.{T, eqb, leb→le, eqb→eq}
-use lib.ListN.{length, take, drop}
+use lib.ListN.{length}
 use Rattle.definitions.specs.Words.{at, up_from}
 use Rattle.definitions.specs.CodeOperations.{between}
 use Rattle.definitions.specs.Images as images
@@ -15,24 +15,7 @@ use Rattle.definitions.specs.Images.{entry_at, body_of, directory_end, entry_num
 use Rattle.definitions.proofs.Tests.{and_left, and_right}
 use Rattle.directory.specs.Entries.{entry_as, InImage}
 use Rattle.directory.specs.declared.Entry.{Entry}
-use Rattle.directory.proofs.Numbers.{left, left_first, left_next, left_end}
-
--- the loop over entries: k is the next of n, and its body is due at place
-module _ (x : List ℕ) (place k n : ℕ) where
-  module _ (more : k ≤ n) where
-    pub wrong_kind : between 1 (entry_at x k).kind 3 ≡ false → bodies_follow x place (left k n) ≡ false
-    wrong_kind e = rw (left_next k n more, e)
-
-    pub wrong_place : between 1 (entry_at x k).kind 3 ≡ true → eqb (entry_at x k).offset place ≡ false → bodies_follow x place (left k n) ≡ false
-    wrong_place e h = rw (left_next k n more, e, h)
-
-    pub next-body :
-        between 1 (entry_at x k).kind 3 ≡ true → eqb (entry_at x k).offset place ≡ true
-        → bodies_follow x place (left k n) ≡ bodies_follow x (place + (entry_at x k).length) (left (k + 1) n)
-    next-body e h = rw (left_next k n more, e, h)
-
-  pub last_body : n < k → bodies_follow x place (left k n) ≡ eqb place (length x)
-  last_body h = rw (left_end k n h)
+use Rattle.directory.proofs.Numbers.{left, left_next}
 
 -- what the loop keeps: what was asked of all bodies is asked of those left
 pub record Going (x : List ℕ) (n place k : ℕ) : Type 0 where
@@ -40,24 +23,20 @@ pub record Going (x : List ℕ) (n place k : ℕ) : Type 0 where
   pub high : k ≤ n + 1
   pub left_to_ask : bodies_follow x (directory_end x) (entry_numbers x) ≡ bodies_follow x place (left k n)
 
-pub begins : (x : List ℕ) (n : ℕ) → n ≡ at x 0 → Going x n (1 + 6 * n) 1
-begins x n e = record {
+-- entry k, read as e, is of a kind and stands where it is due
+pub goes_on :
+    (x : List ℕ) (n place k : ℕ) (e : Entry) → Going x n place k → k ≤ n → entry_as e ≡ entry_at x k → between 1 e.kind 3 ≡ true → e.offset ≡ place
+    → Going x n (place + e.length) (k + 1)
+goes_on x n place k e g more read known due = record {
   low = omega arith;
   high = omega arith;
-  left_to_ask =
-      subst (λ (m : ℕ). bodies_follow x (1 + 6 * m) (up_from 1 m) ≡ bodies_follow x (1 + 6 * n) (left 1 n)) e
-      (ap (bodies_follow x (1 + 6 * n)) (left_first n));
+  left_to_ask = g.left_to_ask ∙ subst Next (sym read) (λ a b. rw (left_next k n more, a, b)) known (eq-eqb e.offset place due);
 }
-
-pub body_is : (x : List ℕ) (k : ℕ) (e : Entry) → entry_as e ≡ entry_at x k → take (e.offset + e.length - e.offset) (drop e.offset x) ≡ body_of x k
-body_is x k e h =
-    let a : e.offset + e.length - e.offset ≡ e.length = omega arith in
-    rw a (ap (λ (u : images.Entry). take u.length (drop u.offset x)) h)
-
-pub ends_within :
-    (x : List ℕ) (k : ℕ) (e : Entry) → entry_as e ≡ entry_at x k
-    → (entry_at x k).offset + (entry_at x k).length ≤ length x → e.offset + e.length ≤ length x
-ends_within x k e h b = subst (λ (u : images.Entry). u.offset + u.length ≤ length x) (sym h) b
+  where
+    Next : images.Entry → Type 0
+    Next u =
+        between 1 u.kind 3 ≡ true → eqb u.offset place ≡ true
+        → bodies_follow x place (left k n) ≡ bodies_follow x (place + u.length) (left (k + 1) n)
 
 module _ (x : List ℕ) where
   abbrev size : ℕ → ℕ
@@ -113,33 +92,3 @@ module _ (x : List ℕ) where
           body = bodies_within 1 (at x 0) (directory_end x) (search (and_left, and_right)) k low (omega arith);
         };
       }
-
--- the tests of contents: where one fails, the others do not matter
-module _ (x : List ℕ) where
-  pub empty : length x < 1 → contents_right x ≡ false
-  unfolding contents_right
-  empty h = simp (lt-leb 1 (length x) h, and-false)
-
-  pub too_long : 65535 < length x → contents_right x ≡ false
-  unfolding contents_right
-  too_long h = simp (lt-leb (length x) 65535 h, and-false)
-
-  pub no_entries : at x 0 < 1 → contents_right x ≡ false
-  unfolding contents_right
-  no_entries h = simp (lt-leb 1 (at x 0) h, and-false)
-
-  pub too_many : 32 < at x 0 → contents_right x ≡ false
-  unfolding contents_right
-  too_many h = simp (lt-leb (at x 0) 32 h, and-false)
-
-  pub cut_short : length x < directory_end x → contents_right x ≡ false
-  unfolding contents_right
-  cut_short h = simp (lt-leb (directory_end x) (length x) h, and-false)
-
-  -- and where those of the numbers pass, the bodies are left
-  pub only_bodies :
-      1 ≤ length x → length x ≤ 65535 → 1 ≤ at x 0 → at x 0 ≤ 32 → directory_end x ≤ length x
-      → contents_right x ≡ bodies_follow x (directory_end x) (entry_numbers x)
-  unfolding contents_right
-  only_bodies a b d e f =
-      simp (le-leb 1 (length x) a, le-leb (length x) 65535 b, le-leb 1 (at x 0) d, le-leb (at x 0) 32 e, le-leb (directory_end x) (length x) f)

@@ -3,7 +3,15 @@ use Rattle.std.specs.Prelude.{◌≡◌, List, ℕ, ◌+◌, ◌*◌, ◌≤◌,
 use Rattle.definitions.specs.Words.{at}
 use Rattle.definitions.specs.Images.{entry_at}
 use Rattle.definitions.specs.Images as images
+use Rattle.directory.specs.declared.Kind.{Kind}
+use Rattle.directory.specs.declared.Kind.TheVariants as kind
 use Rattle.directory.specs.declared.Entry.{Entry}
+
+-- the number of a kind
+abbrev pub kind_number : Kind → ℕ
+kind_number kind.Plan = 1
+kind_number kind.Stack = 2
+kind_number kind.Row = 3
 
 abbrev pub entry_as : Entry → images.Entry
 entry_as e = record { kind = e.kind; reference = e.reference; offset = e.offset; length = e.length }

@@ -1,13 +1,37 @@
-// The directory of a cartridge image (document 01: contents): its entries, and whether it is as document 01 says.
+// The directory of a cartridge image: its entries, and whether its contents are right.
 #![tactic(auto)]
 
-ghost use Rattle.std.specs.Prelude.{◌≡◌, ◌+◌, ◌<◌, ◌≤◌, length};
+ghost use Rattle.std.specs.Prelude.{◌≡◌, ◌+◌, ◌<◌, ◌≤◌, false, length, MatchOption};
 ghost use Rattle.definitions.specs.CodeOperations.{between};
 ghost use Rattle.definitions.specs.Images.{sixteen_bits, entry_at, body_of, directory_end, entry_numbers, bodies_follow, contents_right};
 ghost use Rattle.directory.specs.Entries.{entry_as, Sixteen, InDirectory, InImage, Counted};
 
-// An entry: document 01's kind, reference, offset and length.
-#[derive(Clone, Copy)]
+// What an entry holds.
+#[derive(Clone, Copy, Debug, PartialEq, Eq)]
+pub enum Kind {
+    Plan,
+    Stack,
+    Row,
+}
+
+impl Kind {
+    ghost use Rattle.directory.specs.Entries.{kind_number};
+
+    // The kind of a number; other numbers than 1 to 3 have none.
+    pub fn of(number: u8) -> Option<Kind>
+        ensures { MatchOption result (between 1 number 3 ≡ false) (λ kind. kind_number kind ≡ number) }
+    {
+        match number {
+            1 => Some(Kind::Plan),
+            2 => Some(Kind::Stack),
+            3 => Some(Kind::Row),
+            0 | 4..=255 => None,
+        }
+    }
+}
+
+// An entry: the number of its kind, its reference, its body's offset and length.
+#[derive(Clone, Copy, Debug, PartialEq, Eq)]
 pub struct Entry {
     pub kind: u8,
     pub reference: usize,
@@ -20,9 +44,7 @@ fn sixteen_bits(image: &[u8], i: usize) -> usize
     requires { i + 1 < length image.now }
     ensures { (result ≡ sixteen_bits image.now i) × (result ≤ 65535) }
 {
-    let low = byte_helpers::wide(image[i]);
-    let high = byte_helpers::wide(image[i + 1]);
-    low + 256 * high
+    usize::from(u16::from_le_bytes([image[i], image[i + 1]]))
 }
 
 // Entry k, from 1.
@@ -33,7 +55,7 @@ pub fn entry_at(image: &[u8], k: usize) -> Entry
     let place = 6 * k - 5;
     Entry {
         kind: image[place],
-        reference: byte_helpers::wide(image[place + 1]),
+        reference: usize::from(image[place + 1]),
         offset: sixteen_bits(image, place + 2),
         length: sixteen_bits(image, place + 4),
     }
@@ -45,66 +67,37 @@ pub fn body(image: &[u8], k: usize) -> &[u8]
     ensures { result.now ≡ body_of image.now k }
 {
     let e = entry_at(image, k);
-    let start = e.offset;
-    let end = start + e.length;
-    &image[start..end]
+    &image[e.offset..e.offset + e.length]
 }
 
-// Whether a kind is one of document 01's.
-fn is_kind(kind: u8) -> bool
-    ensures { result ≡ between 1 kind 3 }
-{
-    match kind {
-        // plan
-        1 => true,
-        // stack
-        2 => true,
-        // row
-        3 => true,
-        0 | 4..=255 => false,
-    }
-}
-
-// Whether all n entries have such kinds and their bodies follow without gaps to the image's end.
+// Whether all n entries have a kind and their bodies follow without gaps to the image's end.
+#[tactic(auto, using(crate::proofs::Contents::goes_on))]
 fn bodies_follow(image: &[u8], n: usize) -> bool
     requires { Counted image.now n }
     ensures { result ≡ bodies_follow image.now (directory_end image.now) (entry_numbers image.now) }
 {
     let mut place = 1 + 6 * n;
-    let mut k = 1;
-    while k <= n {
+    for k in 1..=n {
         let e = entry_at(image, k);
-        if !is_kind(e.kind) {
+        if Kind::of(e.kind).is_none() {
             return false;
         }
         if e.offset != place {
             return false;
         }
         place += e.length;
-        k += 1;
     }
     place == image.len()
 }
 
-// Whether the contents are as document 01 says, references apart.
+// Whether the contents are right, references apart.
+#[tactic(auto, unfolding(definitions::specs::Images::contents_right))]
 pub fn contents_right(image: &[u8]) -> bool
     ensures { result ≡ contents_right image.now }
 {
-    if image.len() < 1 {
+    if !(1..=65535).contains(&image.len()) {
         return false;
     }
-    if 65535 < image.len() {
-        return false;
-    }
-    let n = byte_helpers::wide(image[0]);
-    if n < 1 {
-        return false;
-    }
-    if 32 < n {
-        return false;
-    }
-    if image.len() < 1 + 6 * n {
-        return false;
-    }
-    bodies_follow(image, n)
+    let n = usize::from(image[0]);
+    (1..=32).contains(&n) && 1 + 6 * n <= image.len() && bodies_follow(image, n)
 }

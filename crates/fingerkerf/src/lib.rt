@@ -18,9 +18,8 @@ ghost use Rattle.definitions.specs.MessageNumberOperations.{message_of_number, n
 ghost use Rattle.definitions.specs.Sizes.{code_cells, stack_cells, stack_symbols, packed_bytes, row_cells};
 ghost use Rattle.definitions.specs.Demands.{of_code, of_stack, Tested, OneCodeword, Recovered, DistanceDecides, SomeCodeword};
 ghost use Rattle.definitions.specs.Demands.{GivenWithinReach, KeepsMessages};
-ghost use Rattle.code_operations.specs.CodeClauses.{WhereCodeOpens, WhereWritable, WhereCodeword, WhereCodeReads, WhereCodeAccepted};
-ghost use Rattle.stack_operations.specs.StackClauses.{WhereStackOpens};
-ghost use Rattle.stack_decoding.specs.StackReading.{WhereStackReads, WhereStackAccepted};
+ghost use Rattle.codec.specs.CodeClauses.{WhereCodeOpens, WhereWritable, WhereCodeword, WhereCodeReads, WhereCodeAccepted};
+ghost use Rattle.codec.specs.StackClauses.{WhereStackOpens, WhereStackReads, WhereStackAccepted};
 ghost use Rattle.row_reading.specs.RowClauses.{WherePlanRow, WhereStackRow, RecordDecides};
 ghost use Rattle.row_numbers.specs.RowNumbers.{RowNumbered, row_by};
 ghost use Rattle.packing.specs.Packing.{WherePacked, WhereUnpacked};
@@ -35,7 +34,7 @@ pub fn levels_test(body: &[u8]) -> usize
     ensures number { result ≡ number_of (test_code body.now) }
     ensures accepted { WhereCodeOpens body.now (λ p. Tested (Accepted p) (answer_by result)) }
 {
-    numbered_answers::of_test(code_operations::test(body))
+    numbered_answers::number_of(codec::test(body))
 }
 
 // Write a message of a plan.
@@ -45,7 +44,7 @@ pub fn levels_encode(body: &[u8], message: &[u8], out: &mut [u8]) -> usize
     ensures one_codeword { WhereWritable body.now message.now out.old
         (λ p. OneCodeword (of_code p) message.now (answer_by result) out.new) }
 {
-    numbered_answers::of_write(code_operations::encode(body, message, out))
+    numbered_answers::number_of(codec::encode(body, message, out))
 }
 
 // Read a row of a plan.
@@ -61,7 +60,7 @@ pub fn levels_decode(body: &[u8], word: &[u8], out: &mut [u8]) -> Reading
     ensures keeps_messages { WhereCodeAccepted body.now word.now out.old
         (λ p. KeepsMessages (of_code p) word.now (count_by result.number result.count) out.new) }
 {
-    numbered_answers::of_read(code_decoding::decode(body, word, out))
+    Reading::from(codec::decode(body, word, out))
 }
 
 // Recover the message of a plan's codeword.
@@ -71,7 +70,7 @@ pub fn levels_recover(body: &[u8], word: &[u8], out: &mut [u8]) -> usize
     ensures recovered { WhereCodeword body.now word.now out.old
         (λ p. Recovered (of_code p) word.now (answer_by result) out.new) }
 {
-    numbered_answers::of_write(code_operations::recover(body, word, out))
+    numbered_answers::number_of(codec::recover(body, word, out))
 }
 
 // Test a stack.
@@ -79,7 +78,7 @@ pub fn levels_test_stack(body: &[u8]) -> usize
     ensures number { result ≡ number_of (test_stack body.now) }
     ensures accepted { WhereStackOpens body.now (λ S. Tested (AcceptedStack S) (answer_by result)) }
 {
-    numbered_answers::of_test(stack_operations::test_stack(body))
+    numbered_answers::number_of(codec::test_stack(body))
 }
 
 // Write a message of a stack.
@@ -90,7 +89,7 @@ pub fn levels_encode_stack(body: &[u8], message: &[u8], out: &mut [u8]) -> usize
         StackMessage S message.now → length out.old ≡ S.n
         → OneCodeword (of_stack S) message.now (answer_by result) out.new) }
 {
-    numbered_answers::of_write(stack_operations::encode_stack(body, message, out))
+    numbered_answers::number_of(codec::encode_stack(body, message, out))
 }
 
 // Read a row of a stack.
@@ -105,7 +104,7 @@ pub fn levels_decode_stack(body: &[u8], word: &[u8], out: &mut [u8]) -> Reading
     ensures keeps_messages { WhereStackAccepted body.now word.now out.old
         (λ S. KeepsMessages (of_stack S) word.now (count_by result.number result.count) out.new) }
 {
-    numbered_answers::of_outcome(stack_decoding::decode_stack(body, word, out))
+    Reading::from(codec::decode_stack(body, word, out))
 }
 
 // Recover the message of a stack's codeword.
@@ -116,7 +115,7 @@ pub fn levels_recover_stack(body: &[u8], word: &[u8], out: &mut [u8]) -> usize
         StackCodeword S word.now → length out.old ≡ message_length S.planes
         → Recovered (of_stack S) word.now (answer_by result) out.new) }
 {
-    numbered_answers::of_write(stack_operations::recover_stack(body, word, out))
+    numbered_answers::number_of(codec::recover_stack(body, word, out))
 }
 
 // Make labels: the table's length is q.
@@ -125,7 +124,7 @@ pub fn levels_make_labels(kind: usize, table: &mut [u8]) -> usize
     ensures buffer { table.new ≡ (make_labels kind table.old).out }
     ensures permutation { answer_by result ≡ given tt → Permutation table.new }
 {
-    numbered_answers::of_write(labeling::make_labels(kind, table))
+    numbered_answers::number_of(labeling::make_labels(kind, table))
 }
 
 // Apply labels from states to levels.
@@ -134,7 +133,7 @@ pub fn levels_to_levels(table: &[u8], states: &[u8], levels: &mut [u8]) -> usize
     ensures buffer { levels.new ≡ (to_levels table.now states.now levels.old).out }
     ensures back { GoesBack (to_states table.now) states.now (answer_by result) levels.new }
 {
-    numbered_answers::of_write(labeling::to_levels(table, states, levels))
+    numbered_answers::number_of(labeling::to_levels(table, states, levels))
 }
 
 // Apply labels from levels to states.
@@ -143,7 +142,7 @@ pub fn levels_to_states(table: &[u8], levels: &[u8], states: &mut [u8]) -> usize
     ensures buffer { states.new ≡ (to_states table.now levels.now states.old).out }
     ensures back { GoesBack (to_levels table.now) levels.now (answer_by result) states.new }
 {
-    numbered_answers::of_write(labeling::to_states(table, levels, states))
+    numbered_answers::number_of(labeling::to_states(table, levels, states))
 }
 
 // A plan's message to bytes.
@@ -153,7 +152,7 @@ pub fn levels_pack(body: &[u8], message: &[u8], bytes: &mut [u8]) -> usize
     ensures packed { WherePacked body.now message.now bytes.old
         (λ p. Packed body.now p message.now (answer_by result) bytes.new) }
 {
-    numbered_answers::of_write(packing::pack(body, message, bytes))
+    numbered_answers::number_of(packing::pack(body, message, bytes))
 }
 
 // A plan's message from bytes, whose leftover bits must be 0.
@@ -163,7 +162,7 @@ pub fn levels_unpack(body: &[u8], bytes: &[u8], message: &mut [u8]) -> usize
     ensures unpacked { WhereUnpacked body.now bytes.now message.old
         (λ p. Unpacked body.now p bytes.now (answer_by result) message.new) }
 {
-    numbered_answers::of_write(packing::unpack(body, bytes, message))
+    numbered_answers::number_of(packing::unpack(body, bytes, message))
 }
 
 // A plan's message from a number.
@@ -173,7 +172,7 @@ pub fn levels_message_of_number(body: &[u8], value: u64, message: &mut [u8]) -> 
     ensures made { WhereNumber body.now value message.old
         (λ p. MessageMade body.now p value (answer_by result) message.new) }
 {
-    numbered_answers::of_write(message_numbers::message_of_number(body, value, message))
+    numbered_answers::number_of(message_numbers::message_of_number(body, value, message))
 }
 
 // The number of a plan's message.
@@ -182,14 +181,14 @@ pub fn levels_number_of_message(body: &[u8], message: &[u8]) -> Value
     ensures made { WhereMessage body.now message.now
         (λ p. NumberMade body.now p message.now (count_by result.number result.value)) }
 {
-    numbered_answers::of_number(message_numbers::number_of_message(body, message))
+    Value::from(message_numbers::number_of_message(body, message))
 }
 
 // Check an image.
 pub fn levels_check_image(image: &[u8]) -> usize
     ensures { result ≡ number_of (check_image image.now) }
 {
-    numbered_answers::of_test(image::check_image(image))
+    numbered_answers::number_of(image::check_image(image))
 }
 
 // Read a row entry of an image.
@@ -201,40 +200,40 @@ pub fn levels_read_row(image: &[u8], entry: usize, out: &mut [u8]) -> RowNumbers
     ensures stack_decides { WhereStackRow image.now entry out.old
         (λ S. RecordDecides (of_stack S) (body_of image.now entry) entry (row_by result.number result) out.new) }
 {
-    row_numbers::of_row(row_reading::read_row(image, entry, out))
+    RowNumbers::from(row_reading::read_row(image, entry, out))
 }
 
 // The cells of a plan, and the symbols of its message.
 pub fn levels_code_cells(body: &[u8]) -> Size
     ensures { SizeNumbered (code_cells body.now) result }
 {
-    numbered_answers::of_size(sizes::code_cells(body))
+    Size::from(sizes::code_cells(body))
 }
 
 // The bytes of a plan's packed message.
 pub fn levels_packed_bytes(body: &[u8]) -> Size
     ensures { SizeNumbered (packed_bytes body.now) result }
 {
-    numbered_answers::of_size(packing::packed_bytes(body))
+    Size::from(packing::packed_bytes(body))
 }
 
 // The cells of a stack.
 pub fn levels_stack_cells(body: &[u8]) -> Size
     ensures { SizeNumbered (stack_cells body.now) result }
 {
-    numbered_answers::of_size(sizes::stack_cells(body))
+    Size::from(sizes::stack_cells(body))
 }
 
 // The digits of a stack's message.
 pub fn levels_stack_symbols(body: &[u8]) -> Size
     ensures { SizeNumbered (stack_symbols body.now) result }
 {
-    numbered_answers::of_size(sizes::stack_symbols(body))
+    Size::from(sizes::stack_symbols(body))
 }
 
 // The cells of the plan or stack that a row entry refers to.
 pub fn levels_row_cells(image: &[u8], entry: usize) -> Size
     ensures { SizeNumbered (row_cells image.now entry) result }
 {
-    numbered_answers::of_size(row_numbers::row_cells(image, entry))
+    Size::from(row_numbers::row_cells(image, entry))
 }

@@ -18,9 +18,8 @@ ghost use Rattle.definitions.specs.MessageNumberOperations.{message_of_number, n
 ghost use Rattle.definitions.specs.Sizes.{code_cells, stack_cells, stack_symbols, packed_bytes, row_cells};
 ghost use Rattle.definitions.specs.Demands.{of_code, of_stack, Tested, OneCodeword, Recovered, DistanceDecides, SomeCodeword};
 ghost use Rattle.definitions.specs.Demands.{GivenWithinReach, KeepsMessages};
-ghost use Rattle.code_operations.specs.CodeClauses.{WhereCodeOpens, WhereWritable, WhereCodeword, WhereCodeReads, WhereCodeAccepted};
-ghost use Rattle.stack_operations.specs.StackClauses.{WhereStackOpens};
-ghost use Rattle.stack_decoding.specs.StackReading.{WhereStackReads, WhereStackAccepted};
+ghost use Rattle.codec.specs.CodeClauses.{WhereCodeOpens, WhereWritable, WhereCodeword, WhereCodeReads, WhereCodeAccepted};
+ghost use Rattle.codec.specs.StackClauses.{WhereStackOpens, WhereStackReads, WhereStackAccepted};
 ghost use Rattle.row_reading.specs.RowClauses.{WherePlanRow, WhereStackRow, RecordDecides};
 ghost use Rattle.row_numbers.specs.RowNumbers.{RowNumbered, row_by};
 ghost use Rattle.packing.specs.Packing.{WherePacked, WhereUnpacked};

@@ -2,68 +2,60 @@
 // printed.
 #![tactic(auto)]
 
-ghost use Rattle.std.specs.Prelude.{◌<◌, ◌≤◌, length};
+ghost use Rattle.std.specs.Prelude.{◌<◌, length, IfSome};
 
-use answers::Outcome;
 use std::io::{self, Read};
 
-fn text(rt: &impl Print, s: &[u8]) {
-    let _ = rt.write_all(s);
-}
-
 fn list(rt: &impl Print, name: &[u8], image: &[u8]) {
-    text(rt, name);
-    text(rt, b":\n");
+    let _ = rt.write_all(name);
+    let _ = rt.write_all(b":\n");
     let mut lines = [0u8; 8192];
-    let a = listing::list(image, &mut lines);
-    if let Outcome::Count(k) = a {
-        text(rt, &lines[..k]);
+    if let Ok(length) = listing::list(image, &mut lines) {
+        let _ = rt.write_all(&lines[..length]);
     }
 }
 
-// One sample: the length of its name, the name, the length of the image in two bytes, low byte first, and the image. The answer is where
-// the next one starts; what is cut short is passed over.
-fn sample(rt: &impl Print, input: &[u8], at: usize) -> usize
-    requires { at < length input.now }
-    ensures { (at < result) × (result ≤ length input.now) }
+// One sample of the input: its name, its image, and what follows.
+#[derive(Drop)]
+struct Named<'a> {
+    name: &'a [u8],
+    image: &'a [u8],
+    rest: &'a [u8],
+}
+
+// The length of the name, the name, the length of the image in two bytes, low byte first, and the image. What is cut short is no sample.
+fn sample<'a>(input: &'a [u8]) -> Option<Named<'a>>
+    ensures { IfSome result (λ s. length s.rest.now < length input.now) }
 {
-    let left = input.len() - at;
-    let name = byte_helpers::wide(input[at]);
-    if left < name + 3 {
-        return input.len();
-    }
-    let low = byte_helpers::wide(input[at + name + 1]);
-    let high = byte_helpers::wide(input[at + name + 2]);
-    let size = low + 256 * high;
-    if left < name + 3 + size {
-        return input.len();
-    }
-    let from = at + 1;
-    let to = from + name;
-    let start = to + 2;
-    let end = start + size;
-    list(rt, &input[from..to], &input[start..end]);
-    end
+    let (length, after_length) = input.split_first()?;
+    let (name, after_name) = after_length.split_at_checked(usize::from(*length))?;
+    let (low, after_low) = after_name.split_first()?;
+    let (high, after_high) = after_low.split_first()?;
+    let size = usize::from(u16::from_le_bytes([*low, *high]));
+    let (image, rest) = after_high.split_at_checked(size)?;
+    Some(Named { name, image, rest })
 }
 
 fn samples(rt: &impl Print, input: &[u8]) {
-    let mut at = 0;
-    while at < input.len() {
-        at = sample(rt, input, at);
+    let mut rest = input;
+    while let Some(next) = sample(rest) {
+        list(rt, next.name, next.image);
+        rest = next.rest;
     }
 }
 
 // A buffer of another length is refused 8.
 fn list_into_64_bytes(rt: &impl Print, image: &[u8]) {
-    text(rt, b"into 64 bytes:\n");
+    let _ = rt.write_all(b"into 64 bytes:\n");
     let mut lines = [0u8; 64];
-    let a = listing::list(image, &mut lines);
-    match a {
-        Outcome::Count(_) => text(rt, b"listed\n"),
-        Outcome::Refused(x) => {
-            text(rt, b"refused ");
-            let _ = rt.print(answers::refusal_number(x));
-            text(rt, b"\n");
+    match listing::list(image, &mut lines) {
+        Ok(_) => {
+            let _ = rt.write_all(b"listed\n");
+        }
+        Err(why) => {
+            let _ = rt.write_all(b"refused ");
+            let _ = rt.print(why.number());
+            let _ = rt.write_all(b"\n");
         }
     }
 }

@@ -1,2 +1,0 @@
--- how much of a buffer was read
-pub mod Input
