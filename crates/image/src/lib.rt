@@ -1,46 +1,41 @@
-// Checking a cartridge image: its contents, then each entry's body and reference.
+// Checking a cartridge image: its contents, then each entry's body and reference. An image that passed its check is one value.
 #![tactic(auto)]
 
-ghost use Rattle.std.specs.Prelude.{◌≡◌, true};
-ghost use Rattle.definitions.specs.Images.{passes_test, body_passes, reference_right, entry_right, entries_right, entry_numbers, contents_right, check_image};
-ghost use Rattle.definitions.specs.CodeOperations.{test_code};
-ghost use Rattle.definitions.specs.StackOperations.{test_stack};
-ghost use Rattle.answers.specs.Answering.{tested_as};
+ghost use Rattle.std.specs.Prelude.{◌≡◌, true, ◌≤◌, IfOk};
+ghost use Rattle.definitions.specs.Words.{at};
+ghost use Rattle.definitions.specs.Answers.{given};
+ghost use Rattle.definitions.specs.Images.{reference_right, entry_right, entries_right, entry_numbers, contents_right, check_image};
+ghost use Rattle.answers.specs.Answering.{answer_of};
 ghost use Rattle.directory.specs.Entries.{InImage};
 
-use answers::{Refusal, TestAnswer};
+use answers::Refusal;
+use directory::Kind;
 
-fn passes_test(a: TestAnswer) -> bool
-    ensures { result ≡ passes_test (tested_as a) }
-{
-    match a {
-        TestAnswer::Accepted => true,
-        TestAnswer::Refused(_) => false,
-    }
+// An image that passed its check.
+#[derive(Clone, Copy)]
+pub struct Image<'a> {
+    pub bytes: &'a [u8],
+    pub ghost checked: { check_image bytes.now ≡ given tt },
 }
 
-// Whether entry k, a plan, has the reference 0 and a body that passes its test.
-fn plan_right(image: &[u8], k: usize) -> bool
-    requires { InImage image.now k }
-    ensures { result ≡ body_passes test_code image.now k }
-{
-    let plan = directory::entry_at(image, k);
-    if plan.reference != 0 {
-        return false;
-    }
-    passes_test(code_operations::test(directory::body(image, k)))
-}
+impl<'a> Image<'a> {
+    ghost use Rattle.image.specs.Passed.{checked_as};
 
-// The same for a stack.
-fn stack_right(image: &[u8], k: usize) -> bool
-    requires { InImage image.now k }
-    ensures { result ≡ body_passes test_stack image.now k }
-{
-    let stack = directory::entry_at(image, k);
-    if stack.reference != 0 {
-        return false;
+    // Check an image: 15 and 16.
+    pub fn check(bytes: &'a [u8]) -> Result<Image<'a>, Refusal>
+        ensures answer { checked_as result ≡ check_image bytes.now }
+        ensures same { IfOk result (λ x. x.bytes.now ≡ bytes.now) }
+    {
+        check_image(bytes)?;
+        Ok(Image { bytes })
     }
-    passes_test(stack_operations::test_stack(directory::body(image, k)))
+
+    // How many entries it has.
+    pub fn entry_count(&self) -> usize
+        ensures { (result ≡ at self.now.bytes.now 0) × (result ≤ 32) }
+    {
+        usize::from(self.bytes[0])
+    }
 }
 
 // Whether entry k, a row, has the number of an earlier plan or stack as its reference.
@@ -48,37 +43,34 @@ fn row_right(image: &[u8], k: usize) -> bool
     requires { InImage image.now k }
     ensures { result ≡ reference_right image.now k }
 {
-    let e = directory::entry_at(image, k);
-    let reference = e.reference;
+    let reference = directory::entry_at(image, k).reference;
     if reference < 1 {
         return false;
     }
     if k <= reference {
         return false;
     }
-    let named = directory::entry_at(image, reference);
-    let kind = named.kind;
-    match kind {
-        // plan
-        1 => true,
-        // stack
-        2 => true,
-        // row, and what is no kind
-        0 | 3..=255 => false,
+    match Kind::of(directory::entry_at(image, reference).kind) {
+        Some(Kind::Plan | Kind::Stack) => true,
+        Some(Kind::Row) | None => false,
     }
 }
 
+// Whether entry k is right: a plan or a stack has the reference 0 and a body that passes its test, a row an earlier one of these.
 fn entry_right(image: &[u8], k: usize) -> bool
     requires { InImage image.now k }
     ensures { result ≡ entry_right image.now k }
 {
-    let e = directory::entry_at(image, k);
-    let kind = e.kind;
-    match kind {
-        1 => plan_right(image, k),
-        2 => stack_right(image, k),
-        3 => row_right(image, k),
-        0 | 4..=255 => false,
+    let entry = directory::entry_at(image, k);
+    match Kind::of(entry.kind) {
+        Some(Kind::Plan) => {
+            entry.reference == 0 && codec::test(directory::body(image, k)).is_ok()
+        }
+        Some(Kind::Stack) => {
+            entry.reference == 0 && codec::test_stack(directory::body(image, k)).is_ok()
+        }
+        Some(Kind::Row) => row_right(image, k),
+        None => false,
     }
 }
 
@@ -87,26 +79,24 @@ fn entries_right(image: &[u8]) -> bool
     requires { contents_right image.now ≡ true }
     ensures { result ≡ entries_right image.now (entry_numbers image.now) }
 {
-    let n = byte_helpers::wide(image[0]);
-    let mut k = 1;
-    while k <= n {
+    for k in 1..=usize::from(image[0]) {
         if !entry_right(image, k) {
             return false;
         }
-        k += 1;
     }
     true
 }
 
-// Document 01: check an image.
-pub fn check_image(image: &[u8]) -> TestAnswer
-    ensures { tested_as result ≡ check_image image.now }
+// Check an image: 15, then 16.
+#[tactic(auto, unfolding(definitions::specs::Images::check_image))]
+pub fn check_image(image: &[u8]) -> Result<(), Refusal>
+    ensures { answer_of result ≡ check_image image.now }
 {
     if !directory::contents_right(image) {
-        return TestAnswer::Refused(Refusal::WrongContents);
+        return Err(Refusal::WrongContents);
     }
     if !entries_right(image) {
-        return TestAnswer::Refused(Refusal::WrongBody);
+        return Err(Refusal::WrongBody);
     }
-    TestAnswer::Accepted
+    Ok(())
 }

@@ -1,93 +1,57 @@
 // What cartlist prints for an image, written into a buffer. The image is checked once, and then its rows are read, however many.
 #![tactic(auto)]
 
-ghost use Rattle.std.specs.Prelude.{◌≡◌, ◌+◌, ◌≤◌, length, replicate};
-ghost use Rattle.definitions.specs.Words.{at};
-ghost use Rattle.definitions.specs.Answers.{given};
-ghost use Rattle.definitions.specs.Images.{body_of, reference_of, entry_numbers, check_image};
-ghost use Rattle.definitions.specs.CartridgeLists.{line_of, entry_line, row_lines, list_image};
-ghost use Rattle.answers.specs.Answering.{outcome_as, leaves};
-ghost use Rattle.row_reading.specs.Records.{CheckedRow};
-ghost use Rattle.listing.specs.Lines.{PutsLine, Numbered, WithinLines};
-ghost use Rattle.row_lines.specs.Writing.{Puts};
+ghost use Rattle.std.specs.Prelude.{◌≡◌, ◌×◌, ◌≤◌, length, IfOk};
+ghost use Rattle.definitions.specs.Images.{entry_numbers};
+ghost use Rattle.definitions.specs.CartridgeLists.{line_of, row_lines, list_image};
+ghost use Rattle.answers.specs.Answering.{answer_of, leaves};
+ghost use Rattle.row_lines.specs.Writing.{Adds, Room};
+ghost use Rattle.listing.specs.Lines.{AddsLine};
 
-use answers::{Outcome, Refusal, TestAnswer};
+use answers::Refusal;
+use image::Image;
+use row_lines::Lines;
+use row_reading::Row;
 
-// The cells of the plan or stack that row k's reference names: the first byte of its body.
-pub fn cells(image: &[u8], k: usize) -> usize
-    requires { CheckedRow image.now k }
-    ensures { (result ≡ at (body_of image.now (reference_of image.now k)) 0) × (result ≤ 64) }
+// The line of a row, read with an output row of as many cells as it needs.
+fn put_row(row: Row, lines: &mut Lines)
+    requires { Room lines.old 256 }
+    ensures { AddsLine lines.old (line_of row.entry.image.bytes.now row.entry.number) lines.new }
 {
-    let row = directory::entry_at(image, k);
-    let body = directory::body(image, row.reference);
-    byte_helpers::wide(body[0])
-}
-
-// The line of row k, with an output row of as many cells.
-fn put_row_read(image: &[u8], k: usize, levels: &mut [u8], out: &mut [u8], place: usize) -> usize
-    requires row { CheckedRow image.now k }
-    requires levels { levels.old ≡ replicate (at (body_of image.now (reference_of image.now k)) 0) 0 }
-    requires room { place + 256 ≤ length out.old }
-    ensures { PutsLine out.old place (line_of image.now k) result out.new }
-{
-    let record = row_reading::read_checked_row(image, k, levels);
-    let entry = record.entry;
-    let outcome = record.outcome;
-    row_lines::put_row_line(entry, outcome, levels, out, place)
-}
-
-// The line of row k.
-fn put_row(image: &[u8], k: usize, out: &mut [u8], place: usize) -> usize
-    requires row { CheckedRow image.now k }
-    requires room { place + 256 ≤ length out.old }
-    ensures { PutsLine out.old place (line_of image.now k) result out.new }
-{
-    let n = cells(image, k);
     let mut levels = [0u8; 64];
-    put_row_read(image, k, &mut levels[..n], out, place)
-}
-
-// The line of entry k, if it is a row's.
-fn put_entry(image: &[u8], k: usize, out: &mut [u8], place: usize) -> usize
-    requires entry { Numbered image.now k }
-    requires room { place + 256 ≤ length out.old }
-    ensures { PutsLine out.old place (entry_line image.now k) result out.new }
-{
-    if !row_reading::is_row(image, k) {
-        return place;
-    }
-    put_row(image, k, out, place)
+    let word = &mut levels[..row.cells()];
+    let record = row.read(word);
+    lines.row(record.entry, record.outcome, word);
 }
 
 // The lines of all rows.
-fn put_rows(image: &[u8], out: &mut [u8]) -> usize
-    requires checked { check_image image.now ≡ given tt }
-    requires room { length out.old ≡ 8192 }
-    ensures lines { Puts out.old 0 (row_lines image.now (entry_numbers image.now)) result out.new }
-    ensures within { result ≤ 8192 }
+fn put_rows(image: Image, lines: &mut Lines)
+    requires { Room lines.old 8192 }
+    ensures { Adds lines.old (row_lines image.entry.bytes.now (entry_numbers image.entry.bytes.now)) lines.new }
 {
-    let n = byte_helpers::wide(image[0]);
-    let mut place = 0;
-    let mut k = 1;
-    while k <= n {
-        place = put_entry(image, k, out, place);
-        k += 1;
+    for k in 1..=image.entry_count() {
+        if let Some(row) = Row::of(image, k) {
+            put_row(row, lines);
+        }
     }
-    place
 }
 
-// The lines of an image, at the start of a buffer of 8,192 bytes; what is counted is their bytes.
-#[tactic(auto, using(crate::proofs::AllLines::wrong_buffer))]
-pub fn list(image: &[u8], out: &mut [u8]) -> Outcome
-    ensures result { leaves (outcome_as result) out.new ≡ list_image image.now out.old }
-    ensures within { WithinLines result }
+// The lines of an image, at the start of a buffer of 8,192 bytes; the answer is how many bytes they have. A buffer of another length is
+// refused 8.
+pub fn list(image: &[u8], out: &mut [u8]) -> Result<usize, Refusal>
+    ensures result { leaves (answer_of result) out.new ≡ list_image image.now out.old }
+    ensures within { IfOk result (λ k. (k ≤ 8192) × (k ≤ length out.new)) }
 {
     if out.len() != 8192 {
-        return Outcome::Refused(Refusal::WrongBuffer);
+        return Err(Refusal::WrongBuffer);
     }
-    let checked = image::check_image(image);
-    match checked {
-        TestAnswer::Accepted => Outcome::Count(put_rows(image, out)),
-        TestAnswer::Refused(x) => Outcome::Count(row_lines::put_image_line(x, out, 0)),
+    let mut lines = Lines {
+        out: &mut out[..],
+        place: 0,
+    };
+    match Image::check(image) {
+        Ok(image) => put_rows(image, &mut lines),
+        Err(why) => lines.refused_image(why),
     }
+    Ok(lines.place)
 }

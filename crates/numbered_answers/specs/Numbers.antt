@@ -1,9 +1,6 @@
 -- What the numbers that stand for an answer are.
 use Rattle.std.specs.Prelude.{◌≡◌, ℕ, zero, suc}
-use Rattle.std.proofs.Math.Option.{Option, none, some}
 use Rattle.definitions.specs.Answers.{Answer, given, refused, refused_at}
-use Rattle.answers.specs.Answering.{refusal_plane}
-use Rattle.answers.specs.declared.Refusal.{Refusal}
 use Rattle.numbered_answers.specs.declared.Reading.{Reading}
 use Rattle.numbered_answers.specs.declared.Size.{Size}
 use Rattle.numbered_answers.specs.declared.Value.{Value}
@@ -25,13 +22,6 @@ abbrev pub answer_plane : {A : Type 0} → Answer A → ℕ
 answer_plane (given a) = 0
 answer_plane (refused k) = 0
 answer_plane (refused_at k j) = j
-
-abbrev pub or_zero : Option ℕ → ℕ
-or_zero none = 0
-or_zero (some j) = j
-
-abbrev pub plane_number : Refusal → ℕ
-plane_number x = or_zero (refusal_plane x)
 
 -- the numbers r stand for the answer of reading
 pub record ReadNumbered (a : Answer ℕ) (r : Reading) : Type 0 where

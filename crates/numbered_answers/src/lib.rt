@@ -2,10 +2,10 @@
 #![tactic(auto)]
 
 ghost use Rattle.std.specs.Prelude.{◌≡◌};
-ghost use Rattle.answers.specs.Answering.{tested_as, written_as, read_as, tried_as, outcome_as, sized_as, number_as};
-ghost use Rattle.numbered_answers.specs.Numbers.{number_of, count_of, plane_number, ReadNumbered, SizeNumbered, ValueNumbered};
+ghost use Rattle.answers.specs.Answering.{answer_of, refused_as, outcome_as};
+ghost use Rattle.numbered_answers.specs.Numbers.{number_of, ReadNumbered, SizeNumbered, ValueNumbered};
 
-use answers::{NumberAnswer, Outcome, ReadAnswer, Refusal, SizeAnswer, TestAnswer, WriteAnswer};
+use answers::{Outcome, Refusal};
 
 // A count with how many patterns were tried, or a refusal's number; the plane goes with a stack's 11.
 #[repr(C)]
@@ -33,95 +33,80 @@ pub struct Value {
     pub value: u64,
 }
 
-pub fn of_test(a: TestAnswer) -> usize
-    ensures { result ≡ number_of (tested_as a) }
+// What a test answers, or an operation that writes.
+pub fn number_of(answer: Result<(), Refusal>) -> usize
+    ensures { result ≡ number_of (answer_of answer) }
 {
-    match a {
-        TestAnswer::Accepted => 0,
-        TestAnswer::Refused(x) => answers::refusal_number(x),
+    match answer {
+        Ok(()) => 0,
+        Err(why) => why.number(),
     }
 }
 
-pub fn of_write(a: WriteAnswer) -> usize
-    ensures { result ≡ number_of (written_as a) }
-{
-    match a {
-        WriteAnswer::Written => 0,
-        WriteAnswer::Refused(x) => answers::refusal_number(x),
-    }
-}
-
-// The plane that a refusal adds.
-fn plane_of(x: Refusal) -> usize
-    ensures { result ≡ plane_number x }
-{
-    if let Refusal::NoPatternInPlane(j) = x {
-        j
-    } else {
-        0
-    }
-}
-
-pub fn of_read(a: ReadAnswer) -> Reading
-    ensures numbers { ReadNumbered (read_as a) result }
-    ensures tried { result.tried ≡ count_of (tried_as a) }
-{
-    match a {
-        ReadAnswer::Count { count, tried } => Reading {
-            number: 0,
-            count,
-            tried,
-            plane: 0,
-        },
-        ReadAnswer::Refused(x) => Reading {
-            number: answers::refusal_number(x),
+impl From<Refusal> for Reading {
+    fn from(why: Refusal) -> Reading
+        ensures numbers { ReadNumbered (refused_as why) result }
+        ensures tried { result.tried ≡ 0 }
+    {
+        Reading {
+            number: why.number(),
             count: 0,
             tried: 0,
-            plane: plane_of(x),
-        },
+            plane: why.plane().unwrap_or(0),
+        }
     }
 }
 
-pub fn of_outcome(a: Outcome) -> Reading
-    ensures numbers { ReadNumbered (outcome_as a) result }
-    ensures tried { result.tried ≡ 0 }
-{
-    match a {
-        Outcome::Count(count) => Reading {
-            number: 0,
-            count,
-            tried: 0,
-            plane: 0,
-        },
-        Outcome::Refused(x) => Reading {
-            number: answers::refusal_number(x),
-            count: 0,
-            tried: 0,
-            plane: plane_of(x),
-        },
+impl From<Outcome> for Reading {
+    fn from(outcome: Outcome) -> Reading
+        ensures numbers { ReadNumbered (outcome_as outcome) result }
+        ensures tried { result.tried ≡ 0 }
+    {
+        match outcome {
+            Outcome::Count(count) => Reading {
+                number: 0,
+                count,
+                tried: 0,
+                plane: 0,
+            },
+            Outcome::Refused(why) => Reading::from(why),
+        }
     }
 }
 
-pub fn of_size(a: SizeAnswer) -> Size
-    ensures { SizeNumbered (sized_as a) result }
-{
-    match a {
-        SizeAnswer::Size(size) => Size { number: 0, size },
-        SizeAnswer::Refused(x) => Size {
-            number: answers::refusal_number(x),
-            size: 0,
-        },
+impl From<Result<usize, Refusal>> for Reading {
+    fn from(answer: Result<usize, Refusal>) -> Reading
+        ensures numbers { ReadNumbered (answer_of answer) result }
+        ensures tried { result.tried ≡ 0 }
+    {
+        Reading::from(Outcome::from(answer))
     }
 }
 
-pub fn of_number(a: NumberAnswer) -> Value
-    ensures { ValueNumbered (number_as a) result }
-{
-    match a {
-        NumberAnswer::Number(value) => Value { number: 0, value },
-        NumberAnswer::Refused(x) => Value {
-            number: answers::refusal_number(x),
-            value: 0,
-        },
+impl From<Result<usize, Refusal>> for Size {
+    fn from(answer: Result<usize, Refusal>) -> Size
+        ensures { SizeNumbered (answer_of answer) result }
+    {
+        match answer {
+            Ok(size) => Size { number: 0, size },
+            Err(why) => Size {
+                number: why.number(),
+                size: 0,
+            },
+        }
+    }
+}
+
+impl From<Result<u64, Refusal>> for Value {
+    fn from(answer: Result<u64, Refusal>) -> Value
+        ensures { ValueNumbered (answer_of answer) result }
+    {
+        match answer {
+            Ok(value) => Value { number: 0, value },
+            Err(why) => Value {
+                number: why.number(),
+                value: 0,
+            },
+        }
     }
 }

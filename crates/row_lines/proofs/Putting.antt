@@ -1,14 +1,13 @@
 -- Text written into a buffer, piece after piece.
 use mathlib.Core.Path.{◌≡◌, refl, sym, ap, ap₂, subst, ◌∙◌}
-use mathlib.Core.List.{List, [], ◌∷◌, ◌++◌, append_assoc, append-nil}
-use Prim.Native.Nat.{ℕ, suc, ◌+◌, ◌-◌, ◌≤◌, ◌<◌}
-use native.Mathlib.Numerals.{add-one}
+use mathlib.Core.List.{List, [], ◌++◌, append_assoc, append-nil}
+use Prim.Native.Nat.{ℕ, ◌+◌, ◌≤◌}
 use native.Mathlib.Nat.{add_assoc}
 use native.Mathlib.Omega.{arith}
-use lib.ListN.{length, take, drop, set, length-append, take-append-drop}
-use lib.Seq.{take_at, drop_at, drop-drop, length-take-le, set_split, append_snoc}
-use borrow.Rule.Slice.PartMut.{put_mid, Post-is}
-use Rattle.row_lines.specs.Writing.{Puts}
+use lib.ListN.{length, take, drop, length-append, take-append-drop}
+use lib.Seq.{take_at, drop_at, drop-drop, length-take-le}
+use Rattle.row_lines.specs.Writing.{Puts, Room, Adds}
+use Rattle.row_lines.specs.declared.Lines.{Lines}
 
 pub puts_as :
     {out : List ℕ} {place : ℕ} {t s : List ℕ} {next : ℕ} {after : List ℕ}
@@ -58,21 +57,17 @@ module _ (out : List ℕ) (place : ℕ) where
               ∙ ap (λ (x : List ℕ). x ++ drop (place + length (t ++ s)) out) (append_assoc (take place out) t s);
         }
 
-  -- one byte
-  pub puts_byte : (v : ℕ) → place < length out → Puts out place (v ∷ []) (place + 1) (set out place v)
-  puts_byte v h = record {
-    behind = refl;
-    text =
-        set_split out place v h
-        ∙ sym (append_snoc (take place out) v (drop (suc place) out))
-        ∙ ap (λ (u : ℕ). take place out ++ (v ∷ []) ++ drop u out) (sym (add-one place));
-  }
+-- the same of lines
+pub adds_nothing : (l : Lines) → Room l 0 → Adds l [] l
+adds_nothing l h = record { same = refl; long = refl; room = h; puts = puts_nothing l.out.now l.place }
 
-  -- a part of the buffer that a text was copied into
-  pub puts-part : (t part : List ℕ) (end : ℕ) → part ≡ t → end ≡ place + length t → Puts out place t end (put_mid place (end - place) out part)
-  puts-part t part end e b = record {
-    behind = b;
-    text =
-        ap₂ {C = List ℕ} (λ (x y : List ℕ). take place out ++ (x ++ y)) e (Post-is place end out (omega arith) ∙ ap (λ (u : ℕ). drop u out) b)
-        ∙ sym (append_assoc (take place out) t (drop (place + length t) out));
-  }
+pub adds_as : {l k : Lines} {t s : List ℕ} → t ≡ s → Adds l t k → Adds l s k
+adds_as {l} {k} {t} {s} e p = subst (λ (u : List ℕ). Adds l u k) e p
+
+pub adds_then : {l k m : Lines} {t s : List ℕ} → Adds l t k → Adds k s m → Adds l (t ++ s) m
+adds_then {l} {k} {m} {t} {s} p q = record {
+  same = q.same ∙ p.same;
+  long = q.long ∙ p.long;
+  room = (let a = p.puts.behind in let b = q.room in let c = p.long in simp length-append (omega arith));
+  puts = puts_then l.out.now l.place t k.place k.out.now p.room p.puts s m.place m.out.now q.puts;
+}

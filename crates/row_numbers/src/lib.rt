@@ -3,12 +3,14 @@
 
 ghost use Rattle.std.specs.Prelude.{◌≡◌};
 ghost use Rattle.definitions.specs.Sizes.{row_cells};
-ghost use Rattle.answers.specs.Answering.{sized_as};
-ghost use Rattle.row_reading.specs.Records.{row_as};
-ghost use Rattle.row_numbers.specs.RowNumbers.{RowNumbered, record_answer};
+ghost use Rattle.answers.specs.Answering.{answer_of, answer_with};
+ghost use Rattle.row_reading.specs.Records.{record_as};
+ghost use Rattle.row_numbers.specs.RowNumbers.{RowNumbered};
 
-use answers::{Outcome, Refusal, SizeAnswer, TestAnswer};
-use row_reading::RowAnswer;
+use answers::Refusal;
+use image::Image;
+use numbered_answers::Reading;
+use row_reading::{Record, Row};
 
 // A plain refusal's number, all else 0; or 0 with the record: its entry, and a count or a refusal with its plane.
 #[repr(C)]
@@ -21,48 +23,40 @@ pub struct RowNumbers {
     pub plane: usize,
 }
 
-// A record with its outcome.
-fn of_record(entry: usize, outcome: Outcome) -> RowNumbers
-    ensures { RowNumbered (record_answer entry outcome) result }
-{
-    let r = numbered_answers::of_outcome(outcome);
-    RowNumbers {
-        number: 0,
-        entry,
-        refusal: r.number,
-        count: r.count,
-        plane: r.plane,
-    }
-}
-
-pub fn of_row(a: RowAnswer) -> RowNumbers
-    ensures { RowNumbered (row_as a) result }
-{
-    match a {
-        RowAnswer::Record(record) => {
-            let outcome = record.outcome;
-            of_record(record.entry, outcome)
+impl From<Result<Record, Refusal>> for RowNumbers {
+    fn from(answer: Result<Record, Refusal>) -> RowNumbers
+        ensures { RowNumbered (answer_with record_as answer) result }
+    {
+        match answer {
+            Ok(record) => {
+                let outcome = Reading::from(record.outcome);
+                RowNumbers {
+                    number: 0,
+                    entry: record.entry,
+                    refusal: outcome.number,
+                    count: outcome.count,
+                    plane: outcome.plane,
+                }
+            }
+            Err(why) => RowNumbers {
+                number: why.number(),
+                entry: 0,
+                refusal: 0,
+                count: 0,
+                plane: 0,
+            },
         }
-        RowAnswer::Refused(x) => RowNumbers {
-            number: answers::refusal_number(x),
-            entry: 0,
-            refusal: 0,
-            count: 0,
-            plane: 0,
-        },
     }
 }
 
 // The cells of the plan or stack that a row entry refers to.
-pub fn row_cells(image: &[u8], entry: usize) -> SizeAnswer
-    ensures { sized_as result ≡ row_cells image.now entry }
+#[tactic(auto, unfolding(definitions::specs::Sizes::row_cells))]
+pub fn row_cells(image: &[u8], entry: usize) -> Result<usize, Refusal>
+    ensures { answer_of result ≡ row_cells image.now entry }
 {
-    let checked = image::check_image(image);
-    if let TestAnswer::Refused(x) = checked {
-        return SizeAnswer::Refused(x);
-    }
-    if !row_reading::is_row(image, entry) {
-        return SizeAnswer::Refused(Refusal::OutOfRange);
-    }
-    SizeAnswer::Size(listing::cells(image, entry))
+    let checked = Image::check(image)?;
+    let Some(row) = Row::of(checked, entry) else {
+        return Err(Refusal::OutOfRange);
+    };
+    Ok(row.cells())
 }

@@ -1,104 +1,104 @@
 // Reading a row entry of a cartridge image.
 #![tactic(auto)]
 
-ghost use Rattle.std.specs.Prelude.{◌≡◌};
-ghost use Rattle.definitions.specs.Answers.{given};
-ghost use Rattle.definitions.specs.CodeOperations.{decode_code};
-ghost use Rattle.definitions.specs.Images.{body_of, is_row, check_image, decode_row, recorded, read_row};
+ghost use Rattle.std.specs.Prelude.{◌≡◌, true, false, ◌≤◌, MatchOption};
+ghost use Rattle.definitions.specs.Words.{at};
+ghost use Rattle.definitions.specs.Images.{body_of, reference_of, is_row, decode_row, recorded, read_row};
 ghost use Rattle.definitions.specs.Demands.{of_code, of_stack};
-ghost use Rattle.answers.specs.Answering.{outcome_as, leaves};
-ghost use Rattle.row_reading.specs.Records.{record_as, row_as, CheckedRow};
-ghost use Rattle.row_reading.specs.RowClauses.{WherePlanRow, WhereStackRow, RecordDecides};
+ghost use Rattle.answers.specs.Answering.{outcome_as, answer_with, leaves};
 
-use answers::{Outcome, ReadAnswer, Refusal, TestAnswer};
+use answers::{Outcome, Refusal};
+use directory::Kind;
+use image::Image;
 
 // A row's record.
-#[derive(Clone, Copy)]
+#[derive(Clone, Copy, Debug, PartialEq, Eq)]
 pub struct Record {
     pub entry: usize,
     pub outcome: Outcome,
 }
 
-// Reading a row entry: 15, 16 or 2, or the row's record.
+// A row entry of an image that passed its check.
 #[derive(Clone, Copy)]
-pub enum RowAnswer {
-    Record(Record),
-    Refused(Refusal),
+pub struct Row<'a> {
+    pub image: Image<'a>,
+    pub number: usize,
+    pub ghost row: { is_row image.bytes.now number ≡ true },
 }
 
-// Decoding by a plan, without tried.
-fn decode_by_plan(body: &[u8], row: &[u8], out: &mut [u8]) -> Outcome
-    ensures { leaves (outcome_as result) out.new ≡ decode_code body.now row.now out.old }
-{
-    let a = code_decoding::decode(body, row, out);
-    match a {
-        ReadAnswer::Count { count, tried: _ } => Outcome::Count(count),
-        ReadAnswer::Refused(x) => Outcome::Refused(x),
+impl<'a> Row<'a> {
+    ghost use Rattle.row_reading.specs.Records.{record_as};
+
+    // Entry k of an image, if it is a row's.
+    pub fn of(image: Image<'a>, k: usize) -> Option<Row<'a>>
+        ensures { MatchOption result (is_row image.entry.bytes.now k ≡ false)
+            (λ row. (row.image.bytes.now ≡ image.entry.bytes.now) × (row.number ≡ k)) }
+    {
+        if k < 1 {
+            return None;
+        }
+        if image.entry_count() < k {
+            return None;
+        }
+        match Kind::of(directory::entry_at(image.bytes, k).kind) {
+            Some(Kind::Row) => Some(Row { image, number: k }),
+            Some(Kind::Plan | Kind::Stack) | None => None,
+        }
+    }
+
+    // The cells of the plan or stack that the reference names: the first byte of its body.
+    pub fn cells(&self) -> usize
+        ensures { (result ≡ at (body_of self.now.image.bytes.now (reference_of self.now.image.bytes.now self.now.number)) 0)
+            × (result ≤ 64) }
+    {
+        let image = self.image.bytes;
+        let reference = directory::entry_at(image, self.number).reference;
+        usize::from(directory::body(image, reference)[0])
+    }
+
+    // The row decoded by the plan or stack that its reference names.
+    fn decode(&self, out: &mut [u8]) -> Outcome
+        ensures { leaves (outcome_as result) out.new ≡ decode_row self.now.image.bytes.now self.now.number out.old }
+    {
+        let image = self.image.bytes;
+        let reference = directory::entry_at(image, self.number).reference;
+        let body = directory::body(image, reference);
+        let word = directory::body(image, self.number);
+        match Kind::of(directory::entry_at(image, reference).kind) {
+            Some(Kind::Plan) => Outcome::from(codec::decode(body, word, out).map(|decoded| decoded.count)),
+            Some(Kind::Stack) => Outcome::from(codec::decode_stack(body, word, out)),
+            // not in an image that passed its check
+            Some(Kind::Row) | None => Outcome::Refused(Refusal::OutOfRange),
+        }
+    }
+
+    // Its record.
+    pub fn read(&self, out: &mut [u8]) -> Record
+        ensures { (record_as result, out.new)
+            ≡ recorded self.now.number (decode_row self.now.image.bytes.now self.now.number out.old) }
+    {
+        let outcome = self.decode(out);
+        Record {
+            entry: self.number,
+            outcome,
+        }
     }
 }
 
-// Row entry k by the plan or stack that its reference names.
-fn decode_row(image: &[u8], k: usize, out: &mut [u8]) -> Outcome
-    requires { CheckedRow image.now k }
-    ensures { leaves (outcome_as result) out.new ≡ decode_row image.now k out.old }
-{
-    let row = directory::entry_at(image, k);
-    let reference = row.reference;
-    let named = directory::entry_at(image, reference);
-    let kind = named.kind;
-    let body = directory::body(image, reference);
-    let levels = directory::body(image, k);
-    match kind {
-        1 => decode_by_plan(body, levels, out),
-        2 => stack_decoding::decode_stack(body, levels, out),
-        // not in an image that passed its check
-        0 | 3..=255 => Outcome::Refused(Refusal::OutOfRange),
-    }
-}
+ghost use Rattle.row_reading.specs.Records.{record_as};
+ghost use Rattle.row_reading.specs.RowClauses.{WherePlanRow, WhereStackRow, RecordDecides};
 
-// Row entry k of an image that passed its check: for callers that checked it.
-pub fn read_checked_row(image: &[u8], k: usize, out: &mut [u8]) -> Record
-    requires { CheckedRow image.now k }
-    ensures { (record_as result, out.new) ≡ recorded k (decode_row image.now k out.old) }
-{
-    let outcome = decode_row(image, k, out);
-    Record { entry: k, outcome }
-}
-
-// Whether k is the number of a row's entry.
-pub fn is_row(image: &[u8], k: usize) -> bool
-    requires { check_image image.now ≡ given tt }
-    ensures { result ≡ is_row image.now k }
-{
-    if k < 1 {
-        return false;
-    }
-    if byte_helpers::wide(image[0]) < k {
-        return false;
-    }
-    let e = directory::entry_at(image, k);
-    let kind = e.kind;
-    match kind {
-        // row
-        3 => true,
-        0..=2 | 4..=255 => false,
-    }
-}
-
-// Document 01: reading a row entry.
-pub fn read_row(image: &[u8], entry: usize, out: &mut [u8]) -> RowAnswer
-    ensures result { leaves (row_as result) out.new ≡ read_row image.now entry out.old }
+// Read a row entry: 15, 16 or 2, or the row's record.
+pub fn read_row(image: &[u8], entry: usize, out: &mut [u8]) -> Result<Record, Refusal>
+    ensures result { leaves (answer_with record_as result) out.new ≡ read_row image.now entry out.old }
     ensures plan_decides { WherePlanRow image.now entry out.old
-        (λ p. RecordDecides (of_code p) (body_of image.now entry) entry (row_as result) out.new) }
+        (λ p. RecordDecides (of_code p) (body_of image.now entry) entry (answer_with record_as result) out.new) }
     ensures stack_decides { WhereStackRow image.now entry out.old
-        (λ S. RecordDecides (of_stack S) (body_of image.now entry) entry (row_as result) out.new) }
+        (λ S. RecordDecides (of_stack S) (body_of image.now entry) entry (answer_with record_as result) out.new) }
 {
-    let checked = image::check_image(image);
-    if let TestAnswer::Refused(x) = checked {
-        return RowAnswer::Refused(x);
-    }
-    if !is_row(image, entry) {
-        return RowAnswer::Refused(Refusal::OutOfRange);
-    }
-    RowAnswer::Record(read_checked_row(image, entry, out))
+    let checked = Image::check(image)?;
+    let Some(row) = Row::of(checked, entry) else {
+        return Err(Refusal::OutOfRange);
+    };
+    Ok(row.read(out))
 }

@@ -1,0 +1,2 @@
+-- what checking an image answered
+pub mod Passed
