@@ -1,25 +1,25 @@
 -- The stored keys are all different exactly when the code is accepted.
-use mathlib.Core.Path.{◌≡◌, refl, sym, ap, ap₂, ◌∙◌, subst}
+use mathlib.Core.Path.{◌≡◌, refl, sym, ap, ◌∙◌, subst}
 use mathlib.Core.Bool.{Bool, true, false}
-use mathlib.Core.List.{List, [], ◌∷◌, map, map-map, Memᴰ}
-use Prim.Native.Nat.{ℕ, ◌*◌, ◌≤◌}
-use native.Mathlib.Nat.{zero-add}
+use mathlib.Core.List.{List, [], ◌∷◌, ◌++◌, map, map-map, Memᴰ}
+use Prim.Native.Nat.{ℕ}
 use native.Mathlib.Omega.{arith}
 use lib.Dec.{T}
-use lib.ListN.{length, length-map}
+use lib.ListN.{length, length-map, take}
 use Rattle.definitions.specs.Words.{up_from, same_word}
 use Rattle.definitions.specs.Codewords.{syndrome}
 use Rattle.definitions.specs.Patterns.{patterns, patterns_of, pattern_count}
 use Rattle.definitions.specs.Acceptance.{all_different, accepted}
 use Rattle.definitions.proofs.Tests.{same_eq, same_refl}
-use Rattle.opening.specs.Opening.{code_with, Ready}
-use Rattle.opening.specs.declared.Parameters.{Parameters}
-use Rattle.acceptance.specs.Listing.{Columns, reached, zero_syndrome, syndromes}
-use Rattle.acceptance.specs.Keys.{low_key, high_key, Stored, pair_at, pairs}
+use Rattle.definitions.specs.Codes.{Code}
+use Rattle.opening.specs.Viewed.{code}
+use Rattle.opening.specs.declared.Code.{Code as Opened}
+use Rattle.acceptance.specs.Listing.{reached, zero_syndrome, syndromes}
+use Rattle.acceptance.specs.declared.keys.Listed.{Listed}
+use Rattle.acceptance.specs.Keys.{key_of, listed, Stored, word_of}
 use Rattle.code_theorems.proofs.Acceptance.{in_pattern, patterns-number}
-use Rattle.acceptance.proofs.Storing.{keys_of, written-pairs}
-use Rattle.acceptance.proofs.Different.{Each, different_alike}
-use Rattle.acceptance.proofs.Syndromes.{small, same_end, same_syndrome_lem, same_keys}
+use Rattle.acceptance.proofs.Distinct.{Each, different_alike}
+use Rattle.acceptance.proofs.Syndromes.{end, small, same_end, same_syndrome_lem, same_keys}
 
 -- each pattern has n cells
 each_member : (P : List ℕ → Type 0) (xs : List (List ℕ)) → ((x : List ℕ) → Memᴰ x xs → P x) → Each P xs
@@ -42,37 +42,30 @@ alike x y z w f g =
     (λ h. subst (λ (v : List ℕ). T (same_word z v)) (f (same_eq x y h)) (same_refl z))
     (λ h. subst (λ (v : List ℕ). T (same_word x v)) (g (same_eq z w h)) (same_refl x))
 
-pub length-syndromes : (p : Parameters) (A cols : List ℕ) → length (syndromes p cols) ≡ pattern_count (code_with p A)
+pub length-syndromes : (p : Code) → length (syndromes p) ≡ pattern_count p
 unfolding syndromes patterns_of
-length-syndromes p A cols =
-    length-map (patterns_of (code_with p A)) (reached p.m cols 0 zero_syndrome) ∙ patterns-number (code_with p A)
+length-syndromes p =
+    length-map (patterns_of p) (reached p 0 zero_syndrome) ∙ patterns-number p
 
-module _ (p : Parameters) (A cols : List ℕ) (ready : Ready p A) (table : Columns p A cols) where
-  abbrev end : List ℕ → List ℕ
-  end e = reached p.m cols 0 zero_syndrome e
+module _ (o : Opened) where
+  abbrev p : Code
+  p = code o
 
   keys_alike : (a b : List ℕ) → length a ≡ p.n → length b ≡ p.n
-      → same_word (keys_of (end a)) (keys_of (end b)) ≡ same_word (syndrome (code_with p A) a) (syndrome (code_with p A) b)
+      → same_word (word_of (key_of (end o a))) (word_of (key_of (end o b))) ≡ same_word (syndrome p a) (syndrome p b)
   keys_alike a b la lb =
-      alike (keys_of (end a)) (keys_of (end b)) (syndrome (code_with p A) a) (syndrome (code_with p A) b)
-      (λ e. let l : low_key (end a) ≡ low_key (end b) = cc in let h : high_key (end a) ≡ high_key (end b) = cc in
-      same_syndrome_lem p A cols ready table a b la lb
-      (same_keys (end a) (end b) (λ k g. small p A cols ready table a k (omega arith)) (λ k g. small p A cols ready table b k (omega arith)) l h))
-      (λ e. ap keys_of (same_end p A cols ready table a b la lb e))
+      alike (word_of (key_of (end o a))) (word_of (key_of (end o b))) (syndrome p a) (syndrome p b)
+      (λ e. let k : key_of (end o a) ≡ key_of (end o b) = cc in
+      same_syndrome_lem o a b la lb (λ i h. same_keys (end o a) (end o b) (small o a) (small o b) k i (omega arith)))
+      (λ e. ap (λ (s : List ℕ). word_of (key_of s)) (same_end o a b la lb e))
 
-  pub pairs-accepted : (b b' : List ℕ) (r : ℕ) → Stored (syndromes p cols) 0 r b b' → 2 * r ≤ length b
-      → all_different (pairs b' r) ≡ accepted (code_with p A)
+  pub keys-accepted : (b b' : Listed) → Stored (syndromes p) b b' → b.count ≡ 0 → all_different (map word_of (listed b')) ≡ accepted p
   unfolding accepted patterns_of syndromes
-  pairs-accepted b b' r x room =
-      ap all_different
-      (ap₂ {C = List (List ℕ)} (λ (k : List ℕ) (n : ℕ). map (pair_at k) (up_from 0 n)) x.keys count
-      ∙ written-pairs b 0 (syndromes p cols) (omega arith)
-      ∙ map-map keys_of end es)
-      ∙ different_alike (λ e. keys_of (end e)) (syndrome (code_with p A)) (λ e. length e ≡ p.n) keys_alike es
-      (each_member (λ e. length e ≡ p.n) es (λ e m. (in_pattern (code_with p A) e m).long))
+  keys-accepted b b' x none =
+      ap (λ (l : List ℕ). all_different (map word_of l)) (x.keys ∙ ap (λ (k : ℕ). take k b.keys ++ map key_of (syndromes p)) none)
+      ∙ ap all_different (map-map word_of key_of (syndromes p) ∙ map-map (λ (s : List ℕ). word_of (key_of s)) (end o) es)
+      ∙ different_alike (λ e. word_of (key_of (end o e))) (syndrome p) (λ e. length e ≡ p.n) keys_alike es
+      (each_member (λ e. length e ≡ p.n) es (λ e m. (in_pattern p e m).long))
     where
       es : List (List ℕ)
       es = patterns (up_from 1 p.l) p.t p.n
-
-      count : r ≡ length (syndromes p cols)
-      count = x.next ∙ zero-add (length (syndromes p cols))

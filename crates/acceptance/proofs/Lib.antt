@@ -13,7 +13,7 @@ pub mod Sums
 -- what is reached by a pattern is its syndrome, and two keys tell syndromes apart
 pub mod Syndromes
 -- lists whose entries are all different
-pub mod Different
+pub mod Distinct
 -- digital search trees: the walk from a pair's bucket to its slot, and the tree with one pair more
 pub mod Tree
 -- the stored keys are all different exactly when the code is accepted

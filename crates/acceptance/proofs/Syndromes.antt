@@ -10,105 +10,122 @@ use lib.Seq.{ext_get_or}
 use Rattle.definitions.specs.Words.{at, up_from}
 use Rattle.definitions.specs.Codes.{Code}
 use Rattle.definitions.specs.Codewords.{syndrome_entry, syndrome}
-use Rattle.word_laws.proofs.Cells.{map_same, at-up_from, up_from_bounds}
-use Rattle.opening.specs.Opening.{code_with, Ready}
-use Rattle.opening.specs.declared.Parameters.{Parameters}
-use Rattle.acceptance.specs.Listing.{Columns, raised_by, reached, zero_syndrome}
-use Rattle.acceptance.specs.Keys.{entries_key, low_key, high_key}
-use Rattle.acceptance.proofs.Raising.{length-raised, at-below}
+use Rattle.word_laws.proofs.Cells.{map_same, same_map, up_from_bounds, up_from_mem}
+use Rattle.opening.specs.Viewed.{code}
+use Rattle.opening.specs.declared.Code.{Code as Opened}
+use Rattle.syndrome.specs.Columns.{column}
+use Rattle.syndrome.proofs.Columns.{entry_past}
+use Rattle.acceptance.specs.Listing.{raised_by, reached, zero_syndrome}
+use Rattle.acceptance.specs.Keys.{key_of}
+use Rattle.acceptance.proofs.Raising.{length-raised, at-raised}
 use Rattle.acceptance.proofs.Sums.{total, total_entry, total_past}
 
-module _ (m : ℕ) (cols : List ℕ) where
-  length-raised_by : (cell v : ℕ) (s : List ℕ) → length (raised_by m cols cell v s) ≡ length s
+module _ (p : Code) where
+  length-raised_by : (cell v : ℕ) (s : List ℕ) → length s ≡ 16 → length (raised_by p cell v s) ≡ 16
   unfolding raised_by
-  length-raised_by cell zero s = refl
-  length-raised_by cell (suc v) s = length-raised m cols cell (raised_by m cols cell v s) 16 ∙ length-raised_by cell v s
+  length-raised_by cell zero s h = h
+  length-raised_by cell (suc v) s h = length-raised p cell (raised_by p cell v s)
 
-  length-reached : (cell : ℕ) (s e : List ℕ) → length (reached m cols cell s e) ≡ length s
+  length-reached : (cell : ℕ) (s e : List ℕ) → length s ≡ 16 → length (reached p cell s e) ≡ 16
   unfolding reached
-  length-reached cell s [] = refl
-  length-reached cell s (v ∷ e) = length-reached (cell + 1) (raised_by m cols cell v s) e ∙ length-raised_by cell v s
+  length-reached cell s [] h = h
+  length-reached cell s (v ∷ e) h = length-reached (cell + 1) (raised_by p cell v s) e (length-raised_by cell v s h)
 
   module _ (k : ℕ) (hk : k < 16) where
-    at-raised_by : (cell v : ℕ) (s : List ℕ) → length s ≡ 16 → at s k < m → at (raised_by m cols cell v s) k ≡ (at s k + v * at cols (cell * 16 + k)) % m
+    at-raised_by : (cell v : ℕ) (s : List ℕ) → at s k < p.M → at (raised_by p cell v s) k ≡ (at s k + v * column p k cell) % p.M
     unfolding raised_by
-    at-raised_by cell zero s h g = sym (rw (zero-mul (at cols (cell * 16 + k)), add-zero (at s k)) (mod-eq_of_lt g))
-    at-raised_by cell (suc v) s h g =
-        at-below m cols cell (raised_by m cols cell v s) 16 k hk (let l = length-raised_by cell v s in omega arith)
-        ∙ ap (λ (z : ℕ). (z + at cols (cell * 16 + k)) % m) (at-raised_by cell v s h g)
-        ∙ mod-add-mod (at s k + v * at cols (cell * 16 + k)) (m) (at cols (cell * 16 + k))
-        ∙ ap (λ (z : ℕ). z % m) (regroup (at s k) v (at cols (cell * 16 + k)))
+    at-raised_by cell zero s g = sym (rw (zero-mul (column p k cell), add-zero (at s k)) (mod-eq_of_lt g))
+    at-raised_by cell (suc v) s g =
+        at-raised p cell (raised_by p cell v s) k hk
+        ∙ ap (λ (z : ℕ). (z + column p k cell) % p.M) (at-raised_by cell v s g)
+        ∙ mod-add-mod (at s k + v * column p k cell) p.M (column p k cell)
+        ∙ ap (λ (z : ℕ). z % p.M) (regroup (at s k) v (column p k cell))
       where
         regroup : (a v c : ℕ) → a + v * c + c ≡ a + suc v * c
         regroup a v c = rw (suc-mul v c) (omega arith)
 
-    at-reached : (cell : ℕ) (s e : List ℕ) → 0 < m → length s ≡ 16 → at s k < m → at (reached m cols cell s e) k ≡ (at s k + total cols k cell e) % m
+    at-reached : (cell : ℕ) (s e : List ℕ) → 0 < p.M → at s k < p.M → at (reached p cell s e) k ≡ (at s k + total p k cell e) % p.M
     unfolding reached total
-    at-reached cell s [] z h g = sym (rw (add-zero (at s k)) (mod-eq_of_lt g))
-    at-reached cell s (v ∷ e) z h g =
-        at-reached (cell + 1) (raised_by m cols cell v s) e z (length-raised_by cell v s ∙ h)
-        (rw (at-raised_by cell v s h g) (mod-lt (at s k + v * at cols (cell * 16 + k)) z))
-        ∙ ap (λ (x : ℕ). (x + total cols k (cell + 1) e) % m) (at-raised_by cell v s h g)
-        ∙ mod-add-mod (at s k + v * at cols (cell * 16 + k)) (m) (total cols k (cell + 1) e)
-        ∙ ap (λ (x : ℕ). x % m) (regroup (at s k) (v * at cols (cell * 16 + k)) (total cols k (cell + 1) e))
+    at-reached cell s [] z g = sym (rw (add-zero (at s k)) (mod-eq_of_lt g))
+    at-reached cell s (v ∷ e) z g =
+        at-reached (cell + 1) (raised_by p cell v s) e z (rw (at-raised_by cell v s g) (mod-lt (at s k + v * column p k cell) z))
+        ∙ ap (λ (x : ℕ). (x + total p k (cell + 1) e) % p.M) (at-raised_by cell v s g)
+        ∙ mod-add-mod (at s k + v * column p k cell) p.M (total p k (cell + 1) e)
+        ∙ ap (λ (x : ℕ). x % p.M) (regroup (at s k) (v * column p k cell) (total p k (cell + 1) e))
       where
         regroup : (a b c : ℕ) → a + b + c ≡ a + (b + c)
         regroup a b c = omega arith
 
-module _ (p : Parameters) (A cols : List ℕ) (ready : Ready p A) (table : Columns p A cols) where
-  abbrev code : Code
-  code = code_with p A
+-- an opened code
+module _ (o : Opened) where
+  abbrev p : Code
+  p = code o
 
   -- the syndrome that the listing reaches by a pattern
-  abbrev end : List ℕ → List ℕ
-  end e = reached p.m cols 0 zero_syndrome e
+  abbrev pub end : List ℕ → List ℕ
+  end e = reached p 0 zero_syndrome e
 
-  at-end : (e : List ℕ) (k : ℕ) → k < 16 → at (end e) k ≡ total cols k 0 e % p.m
+  positive : 0 < p.M
+  positive = omega (arith, o.levels.0)
+
+  at-end : (e : List ℕ) (k : ℕ) → k < 16 → at (end e) k ≡ total p k 0 e % p.M
   at-end e k h =
       let z : at zero_syndrome k ≡ 0 = get_or-replicate 16 k 0 0 h in
-      let m : 0 < p.m = omega (arith, ready.m-low) in
-      at-reached p.m cols k h 0 zero_syndrome e m refl (rw z m)
-      ∙ ap (λ (x : ℕ). (x + total cols k 0 e) % p.m) z
-      ∙ ap (λ (x : ℕ). x % p.m) (zero-add (total cols k 0 e))
+      at-reached p k h 0 zero_syndrome e positive (rw z positive)
+      ∙ ap (λ (x : ℕ). (x + total p k 0 e) % p.M) z
+      ∙ ap (λ (x : ℕ). x % p.M) (zero-add (total p k 0 e))
 
   pub small : (e : List ℕ) (k : ℕ) → k < 16 → at (end e) k < 256
   small e k h =
-      let l : total cols k 0 e % p.m < p.m = mod-lt (total cols k 0 e) (omega (arith, ready.m-low)) in
-      rw (at-end e k h) (omega (arith, ready.m-high, ready.q-high))
+      let l : total p k 0 e % p.M < p.M = mod-lt (total p k 0 e) positive in
+      rw (at-end e k h) (omega (arith, o.levels.1, o.levels.2))
 
-  entry-end : (e : List ℕ) (k : ℕ) → length e ≡ p.n → k < p.r → at (end e) k ≡ syndrome_entry code e k
+  -- each entry is the syndrome's, past r too
+  entry-end : (e : List ℕ) (k : ℕ) → length e ≡ p.n → k < 16 → at (end e) k ≡ syndrome_entry p e k
   unfolding syndrome_entry
-  entry-end e k l h =
-      let g : k < 16 = omega (arith, ready.r-high) in
-      at-end e k g ∙ ap (λ (x : ℕ). x % p.m) (total_entry p A cols table k g e l h (omega (arith, ready.r-below)))
+  entry-end e k l h = by (dec_lt k p.r)
+    where
+      by : Dec (k < p.r) → at (end e) k ≡ syndrome_entry p e k
+      by (yes d) = at-end e k h ∙ ap (λ (x : ℕ). x % p.M) (total_entry p k e l d (omega (arith, o.cells.3)))
+      by (no d) =
+          at-end e k h ∙ ap (λ (x : ℕ). x % p.M) (total_past p k e l o.size (omega arith)) ∙ zero-mod p.M
+          ∙ sym (entry_past p e k o.size l (omega (arith, o.cells.3)) positive (omega arith))
 
-  past_end : (e : List ℕ) (k : ℕ) → length e ≡ p.n → p.r ≤ k → k < 16 → at (end e) k ≡ 0
-  past_end e k l h g = at-end e k g ∙ ap (λ (x : ℕ). x % p.m) (total_past p A cols table k g e l h) ∙ zero-mod p.m
-
-  pub same_end : (a b : List ℕ) → length a ≡ p.n → length b ≡ p.n → syndrome code a ≡ syndrome code b → end a ≡ end b
+  pub same_end : (a b : List ℕ) → length a ≡ p.n → length b ≡ p.n → syndrome p a ≡ syndrome p b → end a ≡ end b
   unfolding syndrome
   same_end a b la lb e =
-      ext_get_or 0 (end a) (end b) (length-reached p.m cols 0 zero_syndrome a ∙ sym (length-reached p.m cols 0 zero_syndrome b))
-      (λ k h. step k (let q = length-reached p.m cols 0 zero_syndrome a in omega arith) (dec_lt k p.r))
+      ext_get_or 0 (end a) (end b) (long a ∙ sym (long b)) (λ k h. step k (omega (arith, long a)) (dec_lt k p.r))
     where
-      entry : (k : ℕ) → k < p.r → syndrome_entry code a k ≡ syndrome_entry code b k
-      entry k d =
-          ap (syndrome_entry code a) (sym (zero-add k)) ∙ sym (at-up_from (syndrome_entry code a) 0 p.r k d)
-          ∙ ap (λ (x : List ℕ). at x k) e
-          ∙ at-up_from (syndrome_entry code b) 0 p.r k d ∙ ap (syndrome_entry code b) (zero-add k)
+      long : (e : List ℕ) → length (end e) ≡ 16
+      long e = length-reached p 0 zero_syndrome e refl
 
       step : (k : ℕ) → k < 16 → Dec (k < p.r) → at (end a) k ≡ at (end b) k
-      step k h (yes d) = entry-end a k la d ∙ entry k d ∙ sym (entry-end b k lb d)
-      step k h (no d) = past_end a k la (omega arith) h ∙ sym (past_end b k lb (omega arith) h)
+      step k h (yes d) =
+          entry-end a k la h
+          ∙ same_map (syndrome_entry p a) (syndrome_entry p b) (up_from 0 p.r) e k (up_from_mem 0 p.r k (omega arith) (omega arith))
+          ∙ sym (entry-end b k lb h)
+      step k h (no d) = entry-end a k la h ∙ past a la ∙ sym (past b lb) ∙ sym (entry-end b k lb h)
+        where
+          past : (x : List ℕ) → length x ≡ p.n → syndrome_entry p x k ≡ 0
+          past x lx = entry_past p x k o.size lx (omega (arith, o.cells.3)) positive (omega arith)
 
   pub same_syndrome_lem : (a b : List ℕ) → length a ≡ p.n → length b ≡ p.n → ((k : ℕ) → k < 12 → at (end a) k ≡ at (end b) k)
-      → syndrome code a ≡ syndrome code b
+      → syndrome p a ≡ syndrome p b
   unfolding syndrome
   same_syndrome_lem a b la lb h =
-      map_same (syndrome_entry code a) (syndrome_entry code b) (up_from 0 p.r)
+      map_same (syndrome_entry p a) (syndrome_entry p b) (up_from 0 p.r)
       (λ k i. let (x, d) = up_from_bounds 0 p.r k i in
-      let g : k < p.r = omega arith in
-      sym (entry-end a k la g) ∙ h k (omega (arith, ready.r-high)) ∙ entry-end b k lb g)
+      let g : k < 12 = omega (arith, o.cells.2) in
+      sym (entry-end a k la (omega arith)) ∙ h k g ∙ entry-end b k lb (omega arith))
+
+-- d entries of a syndrome, from the one numbered i on, as one number
+unfoldable entries_key : ℕ → ℕ → List ℕ → ℕ
+entries_key zero i s = 0
+entries_key (suc d) i s = at s i + 256 * entries_key d (suc i) s
+
+key-entries : (s : List ℕ) → key_of s ≡ entries_key 16 0 s
+unfolding entries_key
+key-entries s = omega arith
 
 -- equal keys have equal entries
 same_entries : (s t : List ℕ) (d i : ℕ) → ((k : ℕ) → k < i + d → at s k < 256) → ((k : ℕ) → k < i + d → at t k < 256)
@@ -131,10 +148,6 @@ same_entries s t (suc d) i hs ht e k g h =
     step (yes l) ih = ih l
     step (no l) ih = let q : k ≡ i = omega arith in rw q (omega (arith, a, b))
 
-pub same_keys : (s t : List ℕ) → ((k : ℕ) → k < 12 → at s k < 256) → ((k : ℕ) → k < 12 → at t k < 256)
-    → low_key s ≡ low_key t → high_key s ≡ high_key t → (k : ℕ) → k < 12 → at s k ≡ at t k
-same_keys s t hs ht l h k g = step (dec_lt k 8)
-  where
-    step : Dec (k < 8) → at s k ≡ at t k
-    step (yes a) = same_entries s t 8 0 (λ j b. hs j (omega arith)) (λ j b. ht j (omega arith)) l k (omega arith) (omega arith)
-    step (no a) = same_entries s t 4 8 (λ j b. hs j (omega arith)) (λ j b. ht j (omega arith)) h k (omega arith) (omega arith)
+pub same_keys : (s t : List ℕ) → ((k : ℕ) → k < 16 → at s k < 256) → ((k : ℕ) → k < 16 → at t k < 256)
+    → key_of s ≡ key_of t → (k : ℕ) → k < 16 → at s k ≡ at t k
+same_keys s t hs ht e k g = same_entries s t 16 0 hs ht (sym (key-entries s) ∙ e ∙ key-entries t) k (omega arith) g

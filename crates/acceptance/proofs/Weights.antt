@@ -9,15 +9,15 @@ use native.Mathlib.Omega.{arith}
 use lib.ListN.{length, length-append, length-map}
 use Rattle.definitions.specs.Words.{up_from}
 use Rattle.definitions.specs.Patterns.{of_weight, patterns}
-use Rattle.opening.specs.declared.Parameters.{Parameters}
+use Rattle.definitions.specs.Codes.{Code}
 use Rattle.acceptance.specs.Listing.{reached, zero_syndrome, syndromes_from, syndromes}
 
-module _ (p : Parameters) (cols : List ℕ) where
+module _ (p : Code) where
   abbrev mags : List ℕ
   mags = up_from 1 p.l
 
   abbrev end : List ℕ → List ℕ
-  end = reached p.m cols 0 zero_syndrome
+  end = reached p 0 zero_syndrome
 
   abbrev all : ℕ → List (List ℕ)
   all w = patterns mags w p.n
@@ -31,12 +31,12 @@ module _ (p : Parameters) (cols : List ℕ) where
   unfolding lighter
   lighter_none = refl
 
-  pub lighter_more : (w : ℕ) → lighter (w + 1) ≡ lighter w ++ syndromes_from p cols w 0 zero_syndrome
+  pub lighter_more : (w : ℕ) → lighter (w + 1) ≡ lighter w ++ syndromes_from p w 0 zero_syndrome
   unfolding lighter syndromes_from
   lighter_more zero = simp sub-zero
   lighter_more (suc w) = rw (add-one (suc w), sub-zero p.n) (map-append end (all w) (of_weight mags (suc w) p.n))
 
-  pub lighter_all : (w : ℕ) → w ≡ p.t + 1 → lighter w ≡ syndromes p cols
+  pub lighter_all : (w : ℕ) → w ≡ p.t + 1 → lighter w ≡ syndromes p
   unfolding lighter syndromes
   lighter_all w e = rw (e, add-one p.t)
 
@@ -49,11 +49,11 @@ module _ (p : Parameters) (cols : List ℕ) where
       step (inr l) ih = let g = ih (omega arith) in omega (arith, length-append (all t) (of_weight mags (suc t) p.n))
 
   -- those of weight w find room after the lighter ones
-  pub room : (w i k : ℕ) → w ≤ p.t → length (syndromes p cols) ≤ k → i ≡ 0 + length (lighter w) → i + length (syndromes_from p cols w 0 zero_syndrome) ≤ k
+  pub room : (w a i k : ℕ) → w ≤ p.t → a + length (syndromes p) ≤ k → i ≡ a + length (lighter w) → i + length (syndromes_from p w 0 zero_syndrome) ≤ k
   unfolding lighter syndromes
-  room w i k h f e =
-      let these = syndromes_from p cols w 0 zero_syndrome in
+  room w a i k h f e =
+      let these = syndromes_from p w 0 zero_syndrome in
       let a : length (lighter (w + 1)) ≡ length (lighter w) + length these = ap length (lighter_more w) ∙ length-append (lighter w) these in
       let b : length (lighter (w + 1)) ≡ length (all w) = rw (add-one w) (length-map (all w) end) in
-      let c : length (syndromes p cols) ≡ length (all p.t) = length-map (all p.t) end in
+      let c : length (syndromes p) ≡ length (all p.t) = length-map (all p.t) end in
       omega (arith, grows w p.t h)

@@ -1,40 +1,21 @@
--- Two keys that together stand for a syndrome, and the buffer that holds them, pair after pair.
-use Rattle.std.specs.Prelude.{◌≡◌, Bool, ◌&&◌, List, [], ◌∷◌, map, ℕ, zero, suc, ◌+◌, ◌*◌, eqb, length, set}
-use Rattle.definitions.specs.Words.{at, up_from}
+-- The key of a syndrome, and the keys of the syndromes listed so far.
+use Rattle.std.specs.Prelude.{◌≡◌, List, [], ◌∷◌, ◌++◌, map, ℕ, ◌+◌, length, take}
+use Rattle.std.specs.Int.{from_le_bytes, w128}
+use Rattle.acceptance.specs.declared.keys.Listed.{Listed}
 
--- four numbers below 256 as one
-abbrev pub four : ℕ → ℕ → ℕ → ℕ → ℕ
-four a b c d = a + 256 * (b + 256 * (c + 256 * d))
+-- the number that has a syndrome's 16 entries as its bytes
+abbrev pub key_of : List ℕ → ℕ
+key_of s = from_le_bytes w128 s
 
--- d entries of a syndrome, from the one numbered i on, as one number
-unfoldable pub entries_key : ℕ → ℕ → List ℕ → ℕ
-entries_key zero i s = 0
-entries_key (suc d) i s = at s i + 256 * entries_key d (suc i) s
+abbrev pub listed : Listed → List ℕ
+listed b = take b.count b.keys
 
--- the two keys of a syndrome: eight entries and four
-abbrev pub low_key : List ℕ → ℕ
-low_key = entries_key 8 0
+-- the keys of the syndromes ss are listed after those before
+pub record Stored (ss : List (List ℕ)) (b b' : Listed) : Type 0 where
+  pub count : b'.count ≡ b.count + length ss
+  pub long : length b'.keys ≡ length b.keys
+  pub keys : listed b' ≡ listed b ++ map key_of ss
 
-abbrev pub high_key : List ℕ → ℕ
-high_key = entries_key 4 8
-
--- a buffer once the keys of the syndromes ss are written to it, from pair i on
-unfoldable pub written : List ℕ → ℕ → List (List ℕ) → List ℕ
-written b i [] = b
-written b i (s ∷ ss) = written (set (set b (2 * i) (low_key s)) (2 * i + 1) (high_key s)) (i + 1) ss
-
--- they are written from pair i on, and r is the number of the next pair
-pub record Stored (ss : List (List ℕ)) (i r : ℕ) (b b' : List ℕ) : Type 0 where
-  pub next : r ≡ i + length ss
-  pub keys : b' ≡ written b i ss
-
--- the pair of keys numbered i, and the first n pairs
-abbrev pub pair_at : List ℕ → ℕ → List ℕ
-pair_at keys i = at keys (2 * i) ∷ at keys (2 * i + 1) ∷ []
-
-abbrev pub pairs : List ℕ → ℕ → List (List ℕ)
-pairs keys n = map (pair_at keys) (up_from 0 n)
-
--- the pair numbered i is a, b
-abbrev pub is_pair : List ℕ → ℕ → ℕ → ℕ → Bool
-is_pair keys a b i = eqb (at keys (2 * i)) a && eqb (at keys (2 * i + 1)) b
+-- a key as a word
+abbrev pub word_of : ℕ → List ℕ
+word_of key = key ∷ []

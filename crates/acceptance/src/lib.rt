@@ -1,22 +1,28 @@
 // Acceptance of a code: are the syndromes of all its patterns different?
 #![tactic(auto)]
 
+mod columns;
+mod different;
+mod keys;
 mod listing;
-mod pairs;
 
 ghost use Rattle.std.specs.Prelude.{◌≡◌};
 ghost use Rattle.definitions.specs.Acceptance.{accepted};
-ghost use Rattle.opening.specs.Opening.{code_with, Ready};
+ghost use Rattle.opening.specs.Viewed.{code as the_code};
 
-use opening::Parameters;
+use columns::Columns;
+use keys::Listed;
+use opening::Code;
 
-// "no two different patterns, taken as rows, have all residues equal"
-pub fn is_accepted(matrix: &[u8], p: Parameters) -> bool
-    requires { Ready p matrix.now }
-    ensures { result ≡ accepted (code_with p matrix.now) }
+// "no two different patterns, taken as rows, have all residues equal". Not inlined: a caller that refuses would make room for its arrays first.
+#[inline(never)]
+pub fn is_accepted(code: &Code) -> bool
+    ensures { result ≡ accepted (the_code code.now) }
 {
-    let mut keys = [0u64; 8192];
-    let columns = listing::columns(matrix, p);
-    let count = listing::list_patterns(&columns, p, &mut keys);
-    pairs::all_different(&keys, count)
+    let mut listed = Listed {
+        keys: [0u128; 4096],
+        count: 0,
+    };
+    listing::list_patterns(&Columns::of(code), &mut listed);
+    different::all_different(&listed.keys[..listed.count])
 }

@@ -15,14 +15,14 @@ use Rattle.definitions.specs.Decoding.{first, fits, same_syndrome}
 use Rattle.definitions.proofs.Tests.{same_eq, same_refl}
 use Rattle.word_laws.proofs.Cells.{up_from_bounds, up_from_mem, map_same, same_map}
 use Rattle.code_theorems.proofs.Syndromes.{syndrome-below}
-use Rattle.opening.specs.declared.Parameters.{Parameters}
-use Rattle.opening.specs.Opening.{code_with, Ready}
+use Rattle.opening.specs.declared.Code as opened
+use Rattle.opening.specs.Viewed as viewed
 use Rattle.syndrome.specs.Columns.{column, Syndrome}
 use Rattle.syndrome.proofs.Columns.{entry_past}
 use Rattle.candidate_patterns.specs.declared.Risen.{Risen}
-use Rattle.candidate_patterns.specs.declared.Asked.{Asked}
+use Rattle.candidate_patterns.specs.declared.asked.Asked.{Asked}
 use Rattle.candidate_patterns.specs.Candidates.{magnitude_at, word_of, added, has_syndrome, test_of, test_for}
-use Rattle.candidate_patterns.specs.Candidates.{SyndromeInRange, Asks, Chosen, Remains}
+use Rattle.candidate_patterns.specs.Candidates.{SyndromeInRange, Chosen, Remains}
 use Rattle.candidate_patterns.proofs.Choices.{of_none, added-at, length-word}
 use Rattle.candidate_patterns.proofs.Syndromes.{Raised, column_hit, column-only}
 use Rattle.candidate_patterns.proofs.Fits.{is_true, is_false, zeros-each, each-zeros}
@@ -71,42 +71,40 @@ module _ (p : Code) (y s : List ℕ) (is : Syndrome p y s) where
   first_same z es = ap (λ (x : List ℕ). first (λ (e : List ℕ). same_word (syndrome p e) x) es) taken
 
 -- its entries are in their range
-pub syndrome-range : (q : Parameters) (A y s : List ℕ) → Ready q A → length y ≡ q.n → Syndrome (code_with q A) y s → SyndromeInRange (code_with q A) s
-syndrome-range q A y s ready long is = record {
-  below = λ i. subst (λ (v : ℕ). v < q.m) (sym (is i)) (syndrome-below (code_with q A) m y i);
-  past = λ i h. is i ∙ entry_past (code_with q A) y i ready.matrix long (let b = ready.r-below in omega arith) m h;
+pub syndrome-range :
+    (c : opened.Code) (y s : List ℕ) → length y ≡ c.n → Syndrome (viewed.code c) y s → SyndromeInRange (viewed.code c) s
+syndrome-range c y s long is = record {
+  below = λ i. subst (λ (v : ℕ). v < c.m) (sym (is i)) (syndrome-below (viewed.code c) (omega arith) y i);
+  past = λ i h. is i ∙ entry_past (viewed.code c) y i c.size long (omega arith) (omega arith) h;
 }
-  where
-    m : 0 < q.m
-    m = let z = ready.m-low in omega arith
 
 -- where no codeword is asked for, nothing is asked of a word
 pub no_word : {X : Type 0} → ◌≡◌ {A = Bool} false true → X
 no_word e = absurd (subst T (sym e) tt)
 
 -- the test of a pattern by what its choices leave
-module _ (a : Asked) (A y : List ℕ) (asks : Asks a A y) (k : Risen) (rest : List ℕ) (left : Remains (code_with a.p A) a.s k rest) where
+module _ (a : Asked) (k : Risen) (rest : List ℕ) (left : Remains (viewed.code a.code) a.s k rest) where
   abbrev code : Code
-  code = code_with a.p A
+  code = viewed.code a.code
 
-  entry : (k' : Risen) → has_syndrome code a.s (word_of a.p.n k') ≡ true → (i : ℕ) → syndrome_entry code (word_of a.p.n k') i ≡ at a.s i
-  entry k' e i = step (dec_lt i a.p.r)
+  entry : (k' : Risen) → has_syndrome code a.s (word_of a.code.n k') ≡ true → (i : ℕ) → syndrome_entry code (word_of a.code.n k') i ≡ at a.s i
+  entry k' e i = step (dec_lt i a.code.r)
     where
-      m : 0 < a.p.m
-      m = let z = asks.ready.m-low in omega arith
+      m : 0 < a.code.m
+      m = omega arith
 
-      step : Dec (i < a.p.r) → syndrome_entry code (word_of a.p.n k') i ≡ at a.s i
-      step (yes l) = has_each code a.s (word_of a.p.n k') e i l
+      step : Dec (i < a.code.r) → syndrome_entry code (word_of a.code.n k') i ≡ at a.s i
+      step (yes l) = has_each code a.s (word_of a.code.n k') e i l
       step (no l) =
-          entry_past code (word_of a.p.n k') i asks.ready.matrix (length-word a.p.n k') (let z = asks.ready.r-below in omega arith) m (omega arith)
-          ∙ sym (asks.range.past i (omega arith))
+          entry_past code (word_of a.code.n k') i a.code.size (length-word a.code.n k') (omega arith) m (omega arith)
+          ∙ sym (a.past i (omega arith))
 
   -- no multiple of a cell's column that is not what remains
   pub misses :
-      (c d : ℕ) → Chosen k 1 c → c < a.p.n → (((i : ℕ) → (d * column code i c) % a.p.m ≡ at rest i) → ⊥)
-      → false ≡ test_for a A y (word_of a.p.n (added k c d))
-  misses c d ch h n = test_not a.codeword code a.s y (word_of a.p.n (added k c d))
-      (is_false (has_syndrome code a.s (word_of a.p.n (added k c d)))
+      (c d : ℕ) → Chosen k 1 c → c < a.code.n → (((i : ℕ) → (d * column code i c) % a.code.m ≡ at rest i) → ⊥)
+      → false ≡ test_for a (word_of a.code.n (added k c d))
+  misses c d ch h n = test_not a.codeword code a.s a.word.now (word_of a.code.n (added k c d))
+      (is_false (has_syndrome code a.s (word_of a.code.n (added k c d)))
       (λ t. n (λ i. column-only code a.s k rest left c d (added k c d) h raised i (entry (added k c d) (is_true _ t) i))))
     where
       raised : Raised k c d (added k c d)
@@ -114,25 +112,25 @@ module _ (a : Asked) (A y : List ℕ) (asks : Asks a A y) (k : Risen) (rest : Li
 
   -- nothing may remain
   module _ (b : Bool) (e : b ≡ all_zero rest) where
-    first_cell : 0 < a.p.n
-    first_cell = let z = asks.ready.r-below in omega arith
+    first_cell : 0 < a.code.n
+    first_cell = omega arith
 
     still : Raised k 0 0 k
     still j = sym (ap (λ (v : ℕ). magnitude_at k j + v) (of_none 0 j) ∙ add-zero (magnitude_at k j))
 
-    none : (i : ℕ) → (0 * column code i 0) % a.p.m ≡ 0
-    none i = ap (λ (v : ℕ). v % a.p.m) (zero-mul (column code i 0)) ∙ zero-mod a.p.m
+    none : (i : ℕ) → (0 * column code i 0) % a.code.m ≡ 0
+    none i = ap (λ (v : ℕ). v % a.code.m) (zero-mul (column code i 0)) ∙ zero-mod a.code.m
 
-    pub nothing_remains : b ≡ true → has_syndrome code a.s (word_of a.p.n k) ≡ true
+    pub nothing_remains : b ≡ true → has_syndrome code a.s (word_of a.code.n k) ≡ true
     nothing_remains t =
-        has_all code a.s (word_of a.p.n k)
+        has_all code a.s (word_of a.code.n k)
         (λ i l. column_hit code a.s k rest left 0 0 k first_cell still i (none i ∙ sym (zeros-each rest (subst T (sym (sym e ∙ t)) tt) i)))
 
-    pub something_remains : b ≡ false → false ≡ test_for a A y (word_of a.p.n k)
-    something_remains t = test_not a.codeword code a.s y (word_of a.p.n k)
-        (is_false (has_syndrome code a.s (word_of a.p.n k)) (λ same. subst T (sym e ∙ t) (each-zeros rest (zeros (is_true _ same)))))
+    pub something_remains : b ≡ false → false ≡ test_for a (word_of a.code.n k)
+    something_remains t = test_not a.codeword code a.s a.word.now (word_of a.code.n k)
+        (is_false (has_syndrome code a.s (word_of a.code.n k)) (λ same. subst T (sym e ∙ t) (each-zeros rest (zeros (is_true _ same)))))
       where
-        zeros : has_syndrome code a.s (word_of a.p.n k) ≡ true → (i : ℕ) → at rest i ≡ 0
+        zeros : has_syndrome code a.s (word_of a.code.n k) ≡ true → (i : ℕ) → at rest i ≡ 0
         zeros same i = sym (column-only code a.s k rest left 0 0 k first_cell still i (entry k same i)) ∙ none i
 
 -- the test where a codeword is asked for, and where it is not

@@ -1,13 +1,11 @@
 -- One error pattern of a search: its risen cells as a word, what they leave of a syndrome, and the test of a pattern.
 use Rattle.std.specs.Prelude.{◌≡◌, Bool, true, false, cond, ◌&&◌, List, map, ℕ, zero, suc, ◌+◌, ◌%◌, ◌<◌, ◌≤◌, eqb, length}
-use Rattle.definitions.specs.Words.{at, up_from, same_word, nowhere_above, subtract, EachCell}
+use Rattle.definitions.specs.Words.{at, up_from, same_word, nowhere_above, subtract}
 use Rattle.definitions.specs.Codes.{Code}
 use Rattle.definitions.specs.Codewords.{syndrome_entry, syndrome, is_codeword}
-use Rattle.opening.specs.declared.Parameters.{Parameters}
-use Rattle.opening.specs.Opening.{code_with, Ready}
-use Rattle.syndrome.specs.Columns.{Syndrome}
+use Rattle.opening.specs.Viewed.{code}
 use Rattle.candidate_patterns.specs.declared.Risen.{Risen}
-use Rattle.candidate_patterns.specs.declared.Asked.{Asked}
+use Rattle.candidate_patterns.specs.declared.asked.Asked.{Asked}
 
 -- the magnitude g at cell c, 0 at every other
 abbrev pub magnitude_of : ℕ → ℕ → ℕ → ℕ
@@ -43,26 +41,14 @@ abbrev pub test_of : Bool → Code → List ℕ → List ℕ → List ℕ → Bo
 test_of false p s y e = has_syndrome p s e
 test_of true p s y e = has_syndrome p s e && nowhere_above e y && is_codeword p (subtract y e)
 
--- what the search for a tests a pattern for, A being the matrix and y the received word
-abbrev pub test_for : Asked → List ℕ → List ℕ → List ℕ → Bool
-test_for a A y = test_of a.codeword (code_with a.p A) a.s y
-
--- y is a received word of an opened code
-pub record Received (p : Parameters) (A y : List ℕ) : Type 0 where
-  pub ready : Ready p A
-  pub long : length y ≡ p.n
-  pub levels : EachCell (λ v. v < p.q) y
+-- what the search for a tests a pattern for
+abbrev pub test_for : Asked → List ℕ → Bool
+test_for a = test_of a.codeword (code a.code) a.s a.word.now
 
 -- the entries of s are a syndrome's: below M, and 0 from the r-th on
 pub record SyndromeInRange (p : Code) (s : List ℕ) : Type 0 where
   pub below : (i : ℕ) → at s i < p.M
   pub past : (i : ℕ) → p.r ≤ i → at s i ≡ 0
-
--- what a search can be asked: the code is open and, where a codeword is asked for, s is the syndrome of a received word y
-pub record Asks (a : Asked) (A y : List ℕ) : Type 0 where
-  pub ready : Ready a.p A
-  pub range : SyndromeInRange (code_with a.p A) a.s
-  pub word : a.codeword ≡ true → Received a.p A y × Syndrome (code_with a.p A) y a.s
 
 -- the choices so far are of cells before `cell`, and `left` more can be made
 pub record Chosen (k : Risen) (left cell : ℕ) : Type 0 where

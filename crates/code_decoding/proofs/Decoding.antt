@@ -1,25 +1,19 @@
 -- Decoding with the pattern that the search found: its subtraction cell by cell, and its count.
-use mathlib.Core.Path.{◌≡◌, sym, ap, ap₂, subst, ◌∙◌}
-use mathlib.Core.List.{List}
-use mathlib.Core.Option.{some, none}
-use Prim.Native.Nat.{ℕ, ◌-◌, ◌<◌}
-use native.Mathlib.Omega.{arith}
-use lib.ListN.{length}
+use Rattle.std.proofs.Common.{◌≡◌, List, ℕ, ◌-◌, ◌<◌, length, true, Some, None, ap₂, sym, ◌∙◌, arith}
 use Rattle.definitions.specs.Words.{at, subtract}
 use Rattle.definitions.specs.Answers.{given, refused, result}
-use Rattle.definitions.specs.Codes.{Code, code_of}
+use Rattle.definitions.specs.Codes.{Code}
 use Rattle.definitions.specs.Patterns.{patterns_of}
-use Rattle.definitions.specs.Decoding.{first, fits, decode}
-use Rattle.definitions.specs.CodeOperations.{open_code}
+use Rattle.definitions.specs.Decoding.{first, decode}
 use Rattle.definitions.specs.Tried.{tried}
-use Rattle.candidate_patterns.specs.Candidates.{magnitude_at, word_of}
-use Rattle.search.specs.Search.{found_word, CountsOf}
+use Rattle.syndrome.specs.Columns.{Syndrome}
+use Rattle.candidate_patterns.specs.Candidates.{magnitude_at, word_of, test_of}
 use Rattle.candidate_patterns.specs.declared.Risen.{Risen}
-use Rattle.search.specs.declared.Found.{Found}
-use Rattle.search.specs.declared.Found.TheVariants.{Pattern, Nothing}
-use Rattle.code_theorems.proofs.Opened.{opened}
+use Rattle.search.specs.Search.{found_word, CountsOf}
+use Rattle.search.specs.declared.Pattern.{Pattern}
 use Rattle.word_laws.proofs.Cells.{at-map2, length-map2}
 use Rattle.candidate_patterns.proofs.Choices.{length-word, word_at}
+use Rattle.candidate_patterns.proofs.Tests.{tests_fit}
 use Rattle.answers.specs.Answering.{leaves}
 
 module _ (y : List ℕ) (k : Risen) where
@@ -31,25 +25,14 @@ module _ (y : List ℕ) (k : Risen) where
       ap₂ (λ (a b : ℕ). a - b) e (f ∙ sym (word_at (length y) k i h))
       ∙ sym (at-map2 (λ a b. a - b) y (word_of (length y) k) i h (omega (arith, length-word (length y) k)))
 
-module _ (p : Code) (y lent : List ℕ) (f : Found) (found : found_word p.n f ≡ first (fits p y) (patterns_of p)) where
+-- the pattern found, or that there is none, is the answer of decoding the word y with the syndrome s
+module _ (p : Code) (y s lent : List ℕ) (is : Syndrome p y s) where
   pub when_found :
-      (k : Risen) (count u : ℕ) (out : List ℕ) → f ≡ Pattern k count u → CountsOf p (fits p y) f → out ≡ subtract y (word_of p.n k)
-      → leaves (given count) out ≡ result (decode p y) lent
-  unfolding decode
-  when_found k count u out e c q =
-      let g : first (fits p y) (patterns_of p) ≡ some (word_of p.n k) = sym (sym (ap (found_word p.n) e) ∙ found) in
-      let h : CountsOf p (fits p y) (Pattern k count u) = subst (CountsOf p (fits p y)) e c in
-      rw (g, h.0, q)
+      (x : Pattern) → found_word p.n (Some x) ≡ first (test_of true p s y) (patterns_of p) → CountsOf p (test_of true p s y) (Some x)
+      → (leaves (given x.count) (subtract y (word_of p.n x.risen)) ≡ result (decode p y) lent) × (x.tried ≡ tried p y)
+  unfolding decode tried
+  when_found x found counts = let e = tests_fit p y s is in (rw (← e, ← found, counts.0), rw (← e) counts.1)
 
-  pub when_nothing : f ≡ Nothing → leaves (refused 11) lent ≡ result (decode p y) lent
+  pub when_nothing : found_word p.n None ≡ first (test_of true p s y) (patterns_of p) → leaves (refused 11) lent ≡ result (decode p y) lent
   unfolding decode
-  when_nothing e = let g : first (fits p y) (patterns_of p) ≡ none = sym (sym (ap (found_word p.n) e) ∙ found) in rw g
-
--- the patterns tried are the place of the first that fits
-pub tried-first :
-    (b : List ℕ) (p : Code) (y : List ℕ) (f : Found) (k : Risen) (count u : ℕ) → open_code b ≡ given p → f ≡ Pattern k count u → CountsOf p (fits p y) f
-    → u ≡ tried (code_of b) y
-unfolding tried
-tried-first b p y f k count u opens e c =
-    let h : CountsOf p (fits p y) (Pattern k count u) = subst (CountsOf p (fits p y)) e c in
-    h.1 ∙ ap (λ (x : Code). tried x y) (sym (opened b p opens).0)
+  when_nothing found = let e = tests_fit p y s is in rw (← e, ← found)

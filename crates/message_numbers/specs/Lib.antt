@@ -1,2 +1,2 @@
--- products with a stop, what both operations begin with, and what their clauses suppose
+-- what the clauses of both operations suppose
 pub mod Numbering

@@ -1,180 +1,130 @@
-// A code's message as one whole number, in mixed radix: the first symbol is the least significant (document 02, wish 2). Each operation
-// takes a code's description; the buffer is written only after all refusals.
+// A code's message as one whole number, in mixed radix: the first symbol is the least significant. Each operation takes a code's
+// description; the buffer is written only after all refusals.
 #![tactic(auto)]
 
-ghost use Rattle.std.specs.Prelude.{◌≡◌, List, ℕ, ◌+◌, ◌*◌, ◌^◌, ◌≤◌, ◌<◌, length};
-ghost use Rattle.definitions.specs.Messages.{Message};
+ghost use Rattle.std.specs.Prelude.{◌≡◌, true, ◌^◌, ◌≤◌, ◌<◌, length, SomeIff, IfOk};
+ghost use Rattle.definitions.specs.Messages.{symbols_fit};
 ghost use Rattle.definitions.specs.Packing.{radix};
 ghost use Rattle.definitions.specs.MessageNumbers.{radix_product, message_number, number_message};
-ghost use Rattle.definitions.specs.MessageNumberOperations.{message_of_number, number_of_message, MessageMade, NumberMade};
-ghost use Rattle.answers.specs.Answering.{written_as, number_as, leaves};
-ghost use Rattle.answers.specs.declared.Refusal.{Refusal};
-ghost use Rattle.opening.specs.Opening.{code_with};
-ghost use Rattle.message_numbers.specs.Numbering.{stopped, Radices, Begun, WhereNumber, WhereMessage};
+ghost use Rattle.definitions.specs.MessageNumberOperations.{open_numbered, message_of_number, number_of_message, MessageMade, NumberMade};
+ghost use Rattle.answers.specs.Answering.{answer_of, answer_with, leaves};
+ghost use Rattle.opening.specs.Viewed.{code as the_code};
+ghost use Rattle.message_numbers.specs.Numbering.{WhereNumber, WhereMessage};
 
-use answers::{NumberAnswer, Refusal, WriteAnswer};
-use opening::{Opened, Parameters};
+use answers::Refusal;
+use opening::Code;
 
 // A larger product is refused 17: 2^63.
 const LARGEST: u64 = 9223372036854775808;
 
-// x times k, so many times, with a stop before it would go past 2^63: what is larger becomes 2^63 + 1.
-fn multiplied(x: u64, k: u64, times: usize) -> u64
-    requires { (1 ≤ k) × (x ≤ 2 ^ 63 + 1) }
-    ensures { result ≡ stopped (x * k ^ times) }
+// The product of all radices, if it is at most 2^63: n - r cells of radix q, then r of floor(q/M).
+fn radix_product(code: &Code) -> Option<u64>
+    ensures { SomeIff result (radix_product (the_code code.now) ≤ 2 ^ 63) (radix_product (the_code code.now)) }
 {
-    let bound = LARGEST / k;
-    let mut y = x;
-    let mut i = 0;
-    while i < times {
-        if bound < y {
-            return LARGEST + 1;
-        }
-        y = y * k;
-        i += 1;
-    }
-    y
-}
-
-// The product of all radices, with that stop: n - r cells of radix q, then r of floor(q/M).
-fn radix_product(p: Parameters) -> u64
-    requires { Radices p }
-    ensures { (A : List ℕ) → result ≡ stopped (radix_product (code_with p A)) }
-{
-    let leading = multiplied(1, p.q as u64, p.n - p.r);
-    multiplied(leading, (p.q / p.m) as u64, p.r)
+    let data = (code.q as u64).checked_pow((code.n - code.r) as u32)?;
+    let check = ((code.q / code.m) as u64).checked_pow(code.r as u32)?;
+    let product = data.checked_mul(check)?;
+    (product <= LARGEST).then_some(product)
 }
 
 // The radix of cell i + 1.
-fn radix_at(p: Parameters, i: usize) -> u64
-    requires { Radices p }
-    ensures { ((A : List ℕ) → result ≡ radix (code_with p A) i) × (1 ≤ result) × (result ≤ 64) }
+fn radix_at(code: &Code, i: usize) -> u64
+    ensures { (result ≡ radix (the_code code.now) i) × (1 ≤ result) × (result ≤ 64) }
 {
-    if i < p.n - p.r {
-        return p.q as u64;
-    }
-    (p.q / p.m) as u64
-}
-
-// A code whose messages have numbers, with the product of its radices; or the refusal.
-#[derive(Drop)]
-enum Numbered {
-    Open {
-        parameters: Parameters,
-        product: u64,
-    },
-    Refused(Refusal),
-}
-
-fn why_refused(o: Numbered) -> Refusal
-    requires { (x : Refusal) × (o ≡ Numbered.Refused x) }
-    ensures { o ≡ Numbered.Refused result }
-{
-    match o {
-        Numbered::Refused(x) => x,
-        Numbered::Open {
-            parameters: _,
-            product: _,
-        } => Refusal::TooShort,
+    if i < code.n - code.r {
+        code.q as u64
+    } else {
+        (code.q / code.m) as u64
     }
 }
 
-// Document 02: open, 8, 17, which both operations begin with. The message, or the buffer for it, has so many symbols.
-#[tactic(auto, using(crate::proofs::Operations::too_many))]
-fn open_numbered(body: &[u8], symbols: usize) -> Numbered
-    ensures { Begun body.now symbols result }
+// An opened code whose messages have numbers, with the product of its radices.
+#[derive(Clone, Copy)]
+struct Numbered<'a> {
+    code: Code<'a>,
+    product: u64,
+    ghost is: { product ≡ radix_product (the_code code) },
+    ghost within: { product ≤ 2 ^ 63 },
+}
+
+impl<'a> Numbered<'a> {
+    // What both operations begin with: opening, 8, 17. The message, or the buffer for it, has so many symbols.
+    #[tactic(auto, unfolding(definitions::specs::MessageNumberOperations::open_numbered))]
+    fn open(body: &'a [u8], symbols: usize) -> Result<Numbered<'a>, Refusal>
+        ensures opened { answer_with (λ x. the_code x.code) result ≡ open_numbered body.now symbols }
+        ensures long { IfOk result (λ x. x.code.n ≡ symbols) }
+    {
+        let opened = Code::open(body);
+        let Ok(code) = opened else {
+            return Err(opened.unwrap_err());
+        };
+        if symbols != code.n {
+            return Err(Refusal::WrongBuffer);
+        }
+        let Some(product) = radix_product(&code) else {
+            return Err(Refusal::TooManyMessages);
+        };
+        Ok(Numbered { code, product })
+    }
+
+    // The symbols of a number, from the least significant on.
+    fn store_symbols(&self, x: u64, out: &mut [u8])
+        requires { length out.old ≡ self.now.code.n }
+        ensures { out.new ≡ number_message (the_code self.now.code) x }
+    {
+        let mut rest = x;
+        for (i, symbol) in out.iter_mut().enumerate() {
+            let radix = radix_at(&self.code, i);
+            *symbol = (rest % radix) as u8;
+            rest /= radix;
+        }
+    }
+
+    // Each symbol times its place value, added up.
+    fn number_of(&self, message: &[u8]) -> u64
+        requires long { length message.now ≡ self.now.code.n }
+        requires fits { symbols_fit (the_code self.now.code) message.now ≡ true }
+        ensures { result ≡ message_number (the_code self.now.code) message.now }
+    {
+        let mut x = 0;
+        let mut place_value = 1;
+        for (i, symbol) in message.iter().enumerate() {
+            x += u64::from(*symbol) * place_value;
+            place_value *= radix_at(&self.code, i);
+        }
+        x
+    }
+}
+
+// A message from a number.
+#[tactic(auto, unfolding(definitions::specs::MessageNumberOperations::message_of_number))]
+pub fn message_of_number(body: &[u8], x: u64, out: &mut [u8]) -> Result<(), Refusal>
+    ensures result { leaves (answer_of result) out.new ≡ message_of_number body.now x out.old }
+    ensures made { WhereNumber body.now x out.old (λ p. MessageMade body.now p x (answer_of result) out.new) }
 {
-    let o = opening::open(body);
-    let Opened::Open {
-        parameters: p,
-        start: _,
-        end: _,
-    } = o
-    else {
-        return Numbered::Refused(opening::why_refused(o));
+    let opened = Numbered::open(body, out.len());
+    let Ok(numbered) = opened else {
+        return Err(opened.unwrap_err());
     };
-    if symbols != p.n {
-        return Numbered::Refused(Refusal::WrongBuffer);
+    if numbered.product <= x {
+        return Err(Refusal::NumberTooLarge);
     }
-    let product = radix_product(p);
-    if LARGEST < product {
-        return Numbered::Refused(Refusal::TooManyMessages);
-    }
-    Numbered::Open {
-        parameters: p,
-        product,
-    }
+    numbered.store_symbols(x, out);
+    Ok(())
 }
 
-// The symbols of a number, from the least significant on.
-fn store_symbols(p: Parameters, x: u64, out: &mut [u8])
-    requires { Radices p × (length out.old ≡ p.n) }
-    ensures { (A : List ℕ) → out.new ≡ number_message (code_with p A) x }
+// The number of a message.
+#[tactic(auto, unfolding(definitions::specs::MessageNumberOperations::number_of_message), using(crate::proofs::Operations::number_made))]
+pub fn number_of_message(body: &[u8], message: &[u8]) -> Result<u64, Refusal>
+    ensures answer { answer_of result ≡ number_of_message body.now message.now }
+    ensures made { WhereMessage body.now message.now (λ p. NumberMade body.now p message.now (answer_of result)) }
 {
-    let mut rest = x;
-    let mut i = 0;
-    while i < out.len() {
-        let k = radix_at(p, i);
-        out[i] = (rest % k) as u8;
-        rest = rest / k;
-        i += 1;
-    }
-}
-
-// Document 02: a message from a number.
-pub fn message_of_number(body: &[u8], x: u64, out: &mut [u8]) -> WriteAnswer
-    ensures result { leaves (written_as result) out.new ≡ message_of_number body.now x out.old }
-    ensures made { WhereNumber body.now x out.old
-        (λ p. MessageMade body.now p x (written_as result) out.new) }
-{
-    let o = open_numbered(body, out.len());
-    let Numbered::Open {
-        parameters: p,
-        product,
-    } = o
-    else {
-        return WriteAnswer::Refused(why_refused(o));
+    let opened = Numbered::open(body, message.len());
+    let Ok(numbered) = opened else {
+        return Err(opened.unwrap_err());
     };
-    if product <= x {
-        return WriteAnswer::Refused(Refusal::NumberTooLarge);
+    if !code_operations::symbols_fit(&numbered.code, message) {
+        return Err(Refusal::SymbolTooLarge);
     }
-    store_symbols(p, x, out);
-    WriteAnswer::Written
-}
-
-// Each symbol times its place value, added up.
-fn number_from(p: Parameters, message: &[u8]) -> u64
-    requires radices { Radices p }
-    requires fits { (A : List ℕ) × Message (code_with p A) message.now × (radix_product (code_with p A) ≤ 2 ^ 63) }
-    ensures { (A : List ℕ) → result ≡ message_number (code_with p A) message.now }
-{
-    let mut x = 0;
-    let mut place_value = 1;
-    let mut i = 0;
-    while i < message.len() {
-        x = x + byte_helpers::long(message[i]) * place_value;
-        place_value = place_value * radix_at(p, i);
-        i += 1;
-    }
-    x
-}
-
-// Document 02: the number of a message.
-pub fn number_of_message(body: &[u8], message: &[u8]) -> NumberAnswer
-    ensures answer { number_as result ≡ number_of_message body.now message.now }
-    ensures made { WhereMessage body.now message.now
-        (λ p. NumberMade body.now p message.now (number_as result)) }
-{
-    let o = open_numbered(body, message.len());
-    let Numbered::Open {
-        parameters: p,
-        product: _,
-    } = o
-    else {
-        return NumberAnswer::Refused(why_refused(o));
-    };
-    if !code_operations::symbols_fit(p, message) {
-        return NumberAnswer::Refused(Refusal::SymbolTooLarge);
-    }
-    NumberAnswer::Number(number_from(p, message))
+    Ok(numbered.number_of(message))
 }

@@ -2,10 +2,12 @@
 #![tactic(auto)]
 
 ghost use Rattle.std.specs.Prelude.{◌≡◌};
-ghost use Rattle.answers.specs.Answering.{answer_of, refused_as, outcome_as};
-ghost use Rattle.numbered_answers.specs.Numbers.{number_of, ReadNumbered, SizeNumbered, ValueNumbered};
+ghost use Rattle.answers.specs.Answering.{answer_of, answer_with, refused_as, outcome_as};
+ghost use Rattle.code_decoding.specs.Counts.{count_of as decoded_count, tried_of};
+ghost use Rattle.numbered_answers.specs.Numbers.{number_of, count_of, ReadNumbered, SizeNumbered, ValueNumbered};
 
 use answers::{Outcome, Refusal};
+use code_decoding::Decoded;
 
 // A count with how many patterns were tried, or a refusal's number; the plane goes with a stack's 11.
 #[repr(C)]
@@ -53,6 +55,23 @@ impl From<Refusal> for Reading {
             count: 0,
             tried: 0,
             plane: why.plane().unwrap_or(0),
+        }
+    }
+}
+
+impl From<Result<Decoded, Refusal>> for Reading {
+    fn from(answer: Result<Decoded, Refusal>) -> Reading
+        ensures numbers { ReadNumbered (answer_with decoded_count answer) result }
+        ensures tried { result.tried ≡ count_of (answer_with tried_of answer) }
+    {
+        match answer {
+            Ok(Decoded { count, tried }) => Reading {
+                number: 0,
+                count,
+                tried,
+                plane: 0,
+            },
+            Err(why) => Reading::from(why),
         }
     }
 }

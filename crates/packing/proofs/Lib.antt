@@ -2,5 +2,7 @@
 pub mod Sizes
 -- how bytes are made: a symbol is pulled, a byte is full, the next byte begins
 pub mod Pulling
--- what the operations begin with, what they write, and from their equations to their clauses
-pub mod Operations
+-- what the operations write
+pub mod Stored
+-- from the operations' equations to their clauses
+pub mod Clauses

@@ -1,2 +1,4 @@
--- making bytes: the bits that were pulled from a message and stand in no byte yet; and what the operations' clauses suppose
+-- what opening for packing answers, and the bits that were pulled from a message and stand in no byte yet
 pub mod Packing
+-- the operations of a code that opens and can be packed, and what their clauses suppose
+pub mod Operations

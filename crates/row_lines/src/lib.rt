@@ -4,6 +4,7 @@
 use answers::{Outcome, Refusal};
 
 // A buffer with the place up to which it is written.
+#[derive(Drop)]
 pub struct Lines<'a> {
     pub out: &'a mut [u8],
     pub place: usize,
@@ -12,7 +13,7 @@ pub struct Lines<'a> {
 impl<'a> Lines<'a> {
     ghost use Rattle.std.specs.Prelude.{◌≡◌, [], ◌∷◌, ◌++◌, ◌+◌, ◌*◌, ◌<◌, ◌≤◌, length};
     ghost use Rattle.definitions.specs.Words.{EachCell};
-    ghost use Rattle.definitions.specs.CartridgeLists.{refused_text, count_text, levels_text, decimal, spaced, outcome_text, row_line, image_line};
+    ghost use Rattle.definitions.specs.CartridgeLists.{refused_text, count_text, levels_text, decimal, newline, spaced, outcome_text, row_line, image_line};
     ghost use Rattle.answers.specs.Answering.{refusal_number, outcome_as, leaves};
     ghost use Rattle.row_lines.specs.Writing.{Adds, Room, Printable};
 
@@ -31,6 +32,14 @@ impl<'a> Lines<'a> {
     {
         self.out[self.place] = b;
         self.place += 1;
+    }
+
+    // Each line ends with it.
+    fn end(&mut self)
+        requires { Room self.old 1 }
+        ensures { Adds self.old newline self.new }
+    {
+        self.byte(b'\n');
     }
 
     // A number below 100 in decimal.
@@ -108,7 +117,7 @@ impl<'a> Lines<'a> {
         self.text(b"row ");
         self.decimal(entry);
         self.outcome(outcome, levels);
-        self.text(b"\n");
+        self.end();
     }
 
     // The line of a refused image.
@@ -118,6 +127,6 @@ impl<'a> Lines<'a> {
     {
         self.text(b"image");
         self.refusal(why);
-        self.text(b"\n");
+        self.end();
     }
 }

@@ -12,9 +12,7 @@ use Rattle.word_laws.proofs.PatternSplits as splits
 use Rattle.candidate_patterns.specs.declared.Risen.{Risen}
 use Rattle.candidate_patterns.specs.Candidates.{magnitude_of, magnitude_at, word_of, added, Chosen}
 use Rattle.candidate_patterns.proofs.Choices.{of_here, of_other, added-at, word_more, word_same}
-use Rattle.search.specs.declared.Sought.{Sought}
-use Rattle.search.specs.declared.Sought.TheVariants.{Hit, Miss}
-use Rattle.search.specs.Search.{cells_from, magnitudes_from, seek, pick_sought, sought_as}
+use Rattle.search.specs.Search.{cells_from, magnitudes_from, seek, pick_sought}
 
 -- the words begun are the state of the split: a magnitude more is a cell more
 abbrev more : List ℕ → ℕ → List ℕ
@@ -104,21 +102,21 @@ module _ (f : List ℕ → Bool) where
   seek_append (x ∷ xs) ys t =
       ap (pick_sought f (f x) x (t + 1)) (seek_append xs ys (t + 1)) ∙ continued_pick (f x) x (t + 1) (seek f xs (t + 1)) (seek f ys)
 
-  pub seek_none : (n t : ℕ) (es : List (List ℕ)) → es ≡ [] → sought_as n (Miss t) ≡ seek f es t
+  pub seek_none : (t : ℕ) (es : List (List ℕ)) → es ≡ [] → (none, t) ≡ seek f es t
   unfolding seek
-  seek_none n t es e = rw e
+  seek_none t es e = rw e
 
-  module _ (n : ℕ) (zs xs ys : List (List ℕ)) (t : ℕ) (z : zs ≡ xs ++ ys) (r : Sought) (e : sought_as n r ≡ seek f xs t) where
-    both : seek f zs t ≡ continued (sought_as n r) (seek f ys)
-    both = ap (λ (l : List (List ℕ)). seek f l t) z ∙ seek_append xs ys t ∙ ap (λ (o : Option (List ℕ) × ℕ). continued o (seek f ys)) (sym e)
+  module _ (zs xs ys : List (List ℕ)) (t : ℕ) (z : zs ≡ xs ++ ys) where
+    both : (o : Option (List ℕ) × ℕ) → o ≡ seek f xs t → seek f zs t ≡ continued o (seek f ys)
+    both o e =
+        ap (λ (l : List (List ℕ)). seek f l t) z ∙ seek_append xs ys t ∙ ap (λ (x : Option (List ℕ) × ℕ). continued x (seek f ys)) (sym e)
 
-    pub seek_hit : (k : Risen) (u : ℕ) → r ≡ Hit k u → sought_as n r ≡ seek f zs t
+    pub seek_hit : (e : List ℕ) (u : ℕ) → (some e, u) ≡ seek f xs t → (some e, u) ≡ seek f zs t
+    seek_hit e u q = sym (both (some e, u) q ∙ continued_some e u (seek f ys))
+
+    pub seek_skip : (u : ℕ) → (none, u) ≡ seek f xs t → seek f zs t ≡ seek f ys u
     unfolding continued
-    seek_hit k u q = sym (both ∙ ap (λ (x : Sought). continued (sought_as n x) (seek f ys)) q ∙ sym (ap (sought_as n) q))
-
-    pub seek_skip : (u : ℕ) → r ≡ Miss u → seek f zs t ≡ seek f ys u
-    unfolding continued
-    seek_skip u q = both ∙ ap (λ (x : Sought). continued (sought_as n x) (seek f ys)) q
+    seek_skip u q = both (none, u) q
 
   -- one pattern before the others
   module _ (zs ys : List (List ℕ)) (x : List ℕ) (t : ℕ) (z : zs ≡ (x ∷ []) ++ ys) where
@@ -144,11 +142,10 @@ module _ (f : List ℕ → Bool) where
 
   -- room for the whole is room for the second part after the first
   pub room_next :
-      (n : ℕ) (zs xs ys : List (List ℕ)) (t u b : ℕ) (r : Sought)
-      → zs ≡ xs ++ ys → t + length zs ≤ b → sought_as n r ≡ seek f xs t → r ≡ Miss u → u + length ys ≤ b
-  room_next n zs xs ys t u b r z h e q =
+      (zs xs ys : List (List ℕ)) (t u b : ℕ) → zs ≡ xs ++ ys → t + length zs ≤ b → (none, u) ≡ seek f xs t → u + length ys ≤ b
+  room_next zs xs ys t u b z h e =
       let l : length zs ≡ length xs + length ys = ap length z ∙ length-append xs ys in
-      let c : u ≡ t + length xs = all_tried xs t u (sym e ∙ ap (sought_as n) q) in
+      let c : u ≡ t + length xs = all_tried xs t u (sym e) in
       omega arith
 
 pub room-first : (zs xs ys : List (List ℕ)) (t b : ℕ) → zs ≡ xs ++ ys → t + length zs ≤ b → t + length xs ≤ b

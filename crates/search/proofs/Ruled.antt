@@ -6,27 +6,31 @@ use Prim.Native.Nat.{ℕ, zero, suc, ◌+◌, ◌*◌, ◌-◌, ◌≤◌, ◌<�
 use native.Mathlib.Nat.{add-zero, zero-mul, add-mul, one-mul}
 use native.Mathlib.Omega.{arith}
 use Rattle.definitions.specs.Codes.{Code}
-use Rattle.opening.specs.Opening.{code_with}
+use Rattle.opening.specs.Viewed as viewed
 use Rattle.candidate_patterns.specs.declared.Risen.{Risen}
-use Rattle.candidate_patterns.specs.declared.Asked.{Asked}
-use Rattle.candidate_patterns.specs.Candidates.{word_of, added, Asks, Chosen, Remains, test_for}
+use Rattle.candidate_patterns.specs.Candidates.{word_of, added, Chosen, Remains, SyndromeInRange}
 use Rattle.candidate_patterns.proofs.Choices.{chosen-next, chosen-added}
 use Rattle.candidate_patterns.proofs.Tests.{misses}
 use Rattle.search_filters.specs.Filters.{NoneAt, NoneFrom}
-use Rattle.search.specs.declared.Sought.TheVariants.{Miss}
-use Rattle.search.specs.Search.{cells_from, magnitudes_from, seek, sought_as}
+use mathlib.Core.Option.{Option, none}
+use Rattle.candidate_patterns.specs.declared.asked.Asked.{Asked}
+use Rattle.search.specs.Search.{cells_from, magnitudes_from, seek}
+use Rattle.candidate_patterns.specs.Candidates.{test_for}
 use Rattle.search.proofs.Order.{mag_more, all_chosen, one_miss, cell_none, mag_none, seek_none}
 use Rattle.search.proofs.Steps.{cell_skip}
+
+pub tried_as : (u v : ℕ) → u ≡ v → ◌≡◌ {A = Option (List ℕ) × ℕ} (none, u) (none, v)
+tried_as u v = ap (λ (w : ℕ). (none, w))
 
 module _ (p : Code) (k : Risen) (f : List ℕ → Bool) where
   -- no magnitude of cell c above `mag` passes
   mags_fail :
       (d c mag t : ℕ) → p.l - mag ≡ d → Chosen k 1 c → c < p.n → ((g : ℕ) → 1 ≤ g → g ≤ p.l → false ≡ f (word_of p.n (added k c g)))
-      → sought_as p.n (Miss (t + d)) ≡ seek f (magnitudes_from p k 1 c mag) t
+      → (none, t + d) ≡ seek f (magnitudes_from p k 1 c mag) t
   mags_fail zero c mag t e ch h fails =
-      ap (λ (u : ℕ). sought_as p.n (Miss u)) (add-zero t) ∙ seek_none f p.n t (magnitudes_from p k 1 c mag) (mag_none p k 1 c mag (omega arith))
+      tried_as _ _ (add-zero t) ∙ seek_none f t (magnitudes_from p k 1 c mag) (mag_none p k 1 c mag (omega arith))
   mags_fail (suc d) c mag t e ch h fails =
-      ap (λ (u : ℕ). sought_as p.n (Miss u)) (let q : t + suc d ≡ t + 1 + d = omega arith in q)
+      tried_as _ _ (let q : t + suc d ≡ t + 1 + d = omega arith in q)
       ∙ mags_fail d c (mag + 1) (t + 1) (omega arith) ch h fails
       ∙ sym (one_miss f (magnitudes_from p k 1 c mag) (magnitudes_from p k 1 c (mag + 1)) (word_of p.n (added k c (mag + 1))) t split
       (sym (fails (mag + 1) (omega arith) (omega arith))))
@@ -41,41 +45,45 @@ module _ (p : Code) (k : Risen) (f : List ℕ → Bool) where
   cells_fail :
       (d c t : ℕ) → p.n - c ≡ d → Chosen k 1 c
       → ((c' g : ℕ) → c ≤ c' → c' < p.n → 1 ≤ g → g ≤ p.l → false ≡ f (word_of p.n (added k c' g)))
-      → sought_as p.n (Miss (t + d * p.l)) ≡ seek f (cells_from p k 1 c) t
+      → (none, t + d * p.l) ≡ seek f (cells_from p k 1 c) t
   cells_fail zero c t e ch fails =
-      ap (λ (u : ℕ). sought_as p.n (Miss u)) (ap (λ (v : ℕ). t + v) (zero-mul p.l) ∙ add-zero t)
-      ∙ seek_none f p.n t (cells_from p k 1 c) (cell_none p k 1 c (omega arith) (omega arith))
+      tried_as _ _ (ap (λ (v : ℕ). t + v) (zero-mul p.l) ∙ add-zero t)
+      ∙ seek_none f t (cells_from p k 1 c) (cell_none p k 1 c (omega arith) (omega arith))
   cells_fail (suc d) c t e ch fails =
       let h : c < p.n = omega arith in
       let none_here = mags_fail p.l c 0 t (omega arith) ch h (λ g a b. fails c g (omega arith) h a b) in
-      ap (λ (u : ℕ). sought_as p.n (Miss u))
+      tried_as _ _
       (let q : t + suc d * p.l ≡ t + p.l + d * p.l = omega (arith, add-mul d 1 p.l, one-mul p.l) in q)
       ∙ cells_fail d (c + 1) (t + p.l) (omega arith) (chosen-next k 1 c ch) (λ c' g a. fails c' g (omega arith))
-      ∙ sym (cell_skip p k 1 c (omega arith) h ch f t (Miss (t + p.l)) none_here (t + p.l) refl)
+      ∙ sym (cell_skip p k 1 c (omega arith) h ch f t (t + p.l) none_here)
 
 chosen_later : (k : Risen) (left cell c : ℕ) → cell ≤ c → Chosen k left cell → Chosen k left c
 chosen_later k left cell c h ch =
     record { few = ch.few; free3 = ch.free3; free2 = ch.free2; free1 = ch.free1; before = λ i g. ch.before i (omega arith) }
 
+pub range : (a : Asked) → SyndromeInRange (viewed.code a.code) a.s
+range a = record { below = a.below; past = a.past }
+
 module _
-    (a : Asked) (A y : List ℕ) (asks : Asks a A y) (k : Risen) (rest : List ℕ) (left : ℕ) (one : left ≡ 1)
-    (r : Remains (code_with a.p A) a.s k rest) (cell : ℕ) (ch : Chosen k left cell) where
+    (a : Asked) (k : Risen) (rest : List ℕ) (left : ℕ) (one : left ≡ 1) (r : Remains (viewed.code a.code) a.s k rest) (cell : ℕ)
+    (ch : Chosen k left cell) where
   abbrev code : Code
-  code = code_with a.p A
+  code = viewed.code a.code
 
   last : Chosen k 1 cell
   last = rw (← one) ch
 
+  fails : (c g : ℕ) → Chosen k 1 c → c < a.code.n → (NoneAt code c rest) → 1 ≤ g → g ≤ a.code.l → false ≡ test_for a (word_of a.code.n (added k c g))
+  fails c g h below nothing low high = misses a k rest r c g h below (nothing g low high)
+
   pub cell_ruled :
-      cell < a.p.n → NoneAt code cell rest → (t : ℕ)
-      → sought_as a.p.n (Miss (t + a.p.l)) ≡ seek (test_for a A y) (magnitudes_from code k left cell 0) t
-  cell_ruled h nothing t =
-      rw one (mags_fail code k (test_for a A y) a.p.l cell 0 t (omega arith) last h
-      (λ g low high. misses a A y asks k rest r cell g last h (nothing g low high)))
+      cell < a.code.n → NoneAt code cell rest → (t : ℕ)
+      → (none, t + a.code.l) ≡ seek (test_for a) (magnitudes_from code k left cell 0) t
+  cell_ruled h nothing t = rw one (mags_fail code k (test_for a) a.code.l cell 0 t (omega arith) last h (λ g. fails cell g last h nothing))
 
   pub cells_ruled :
       NoneFrom code cell rest → (t : ℕ)
-      → sought_as a.p.n (Miss (t + (a.p.n - cell) * a.p.l)) ≡ seek (test_for a A y) (cells_from code k left cell) t
+      → (none, t + (a.code.n - cell) * a.code.l) ≡ seek (test_for a) (cells_from code k left cell) t
   cells_ruled nothing t =
-      rw one (cells_fail code k (test_for a A y) (a.p.n - cell) cell t refl last
-      (λ c g from h low high. misses a A y asks k rest r c g (chosen_later k 1 cell c from last) h (nothing c from h g low high)))
+      rw one (cells_fail code k (test_for a) (a.code.n - cell) cell t refl last
+      (λ c g from h. fails c g (chosen_later k 1 cell c from last) h (nothing c from h)))

@@ -18,8 +18,8 @@ use Rattle.word_laws.proofs.PatternList.{of_weight_shape}
 use Rattle.code_theorems.proofs.Acceptance.{magnitude_pos, patterns-number}
 use Rattle.candidate_patterns.specs.declared.Risen.{Risen}
 use Rattle.candidate_patterns.specs.Candidates.{word_of, unrisen}
-use Rattle.search.specs.declared.Sought.TheVariants.{Hit}
-use Rattle.search.specs.declared.Found.TheVariants.{Pattern, Nothing}
+use Rattle.std.proofs.Common.{Break}
+use Rattle.std.specs.Prelude.{Some, None}
 use Rattle.search.specs.Search.{cells_from, seek, pick_sought, sought_as, found_word, CountsOf}
 use Rattle.candidate_patterns.proofs.Choices.{unrisen-at}
 use Rattle.search.proofs.Order.{continued_some, seek_append, continued, all_chosen}
@@ -134,21 +134,21 @@ module _ (p : Code) (f : List ℕ → Bool) where
   unfolding patterns_of
   first_of o u q = sym (ap (λ (x : Option (List ℕ) × ℕ). x.0) q) ∙ seek-first f (up_to p p.t) 0
 
-  pub answer_none : (u : ℕ) → seek f (up_to p p.t) 0 ≡ (none, u) → found_word p.n Nothing ≡ first f (patterns_of p)
+  pub answer_none : (u : ℕ) → seek f (up_to p p.t) 0 ≡ (none, u) → found_word p.n None ≡ first f (patterns_of p)
   answer_none u q = first_of none u q
 
   module _ (k : Risen) (w v u : ℕ) (le : v ≤ p.t) (q : seek f (up_to p v) 0 ≡ (some (word_of p.n k), u)) where
     all : seek f (up_to p p.t) 0 ≡ (some (word_of p.n k), u)
     all = found_early p f v p.t (word_of p.n k) u le q
 
-    pub answer-found : found_word p.n (Pattern k w u) ≡ first f (patterns_of p)
+    pub answer-found : found_word p.n (Some (record { risen = k; count = w; tried = u })) ≡ first f (patterns_of p)
     answer-found = first_of (some (word_of p.n k)) u all
 
-    pub answer_counts : w ≡ weight (word_of p.n k) → CountsOf p f (Pattern k w u)
+    pub answer_counts : w ≡ weight (word_of p.n k) → CountsOf p f (Some (record { risen = k; count = w; tried = u }))
     unfolding patterns_of
     answer_counts e = (e, seek-place f (up_to p p.t) 0 (word_of p.n k) u all ∙ zero-add (place_of_first f (up_to p p.t)))
 
-  pub found_weighs : (w t : ℕ) (k : Risen) (u : ℕ) → sought_as p.n (Hit k u) ≡ seek f (cells_from p unrisen w 0) t → w ≡ weight (word_of p.n k)
+  pub found_weighs : (w t : ℕ) (k : Risen) (u : ℕ) → sought_as p.n (Break (k, u)) ≡ seek f (cells_from p unrisen w 0) t → w ≡ weight (word_of p.n k)
   found_weighs w t k u q =
       sym (found-weight p.l w p.n f t (word_of p.n k) u
       (ap (λ (l : List (List ℕ)). seek f l t) (sym (from_first p w)) ∙ sym q))

@@ -1,16 +1,20 @@
 // The first error pattern with a syndrome, shared by codes and digit planes: two functions that choose a cell and a magnitude.
 #![tactic(auto)]
 
-ghost use Rattle.std.specs.Prelude.{◌≡◌, true, ◌+◌, ◌<◌, ◌≤◌, length};
-ghost use Rattle.opening.specs.Opening.{code_with, Ready};
-ghost use Rattle.syndrome.specs.Columns.{Syndrome};
-ghost use Rattle.candidate_patterns.specs.Candidates.{SyndromeInRange, Received, Asks, test_of, test_for};
+ghost use Rattle.std.specs.Prelude.{◌≡◌, true, ℕ, ◌+◌, ◌<◌, ◌≤◌, length};
+ghost use Rattle.definitions.specs.Words.{at, all_below};
+ghost use Rattle.definitions.specs.Codewords.{syndrome_entry};
+ghost use Rattle.definitions.specs.Patterns.{patterns_of};
+ghost use Rattle.definitions.specs.Decoding.{first};
+ghost use Rattle.candidate_patterns.specs.Candidates.{word_of, Remains};
+ghost use Rattle.opening.specs.Viewed.{code as the_code};
+ghost use Rattle.search.specs.Search.{Reached, cells_left, magnitudes_left, seek, sought_as, NoneWithOne, found_word, CountsOf};
+ghost use Rattle.candidate_patterns.specs.Candidates.{test_for};
 ghost use Rattle.search_filters.specs.Filters.{LastCells};
-ghost use Rattle.search.specs.Search.{begun, at_cell, with_magnitude, Reached, cells_left, magnitudes_left, seek, sought_as};
-ghost use Rattle.search.specs.Search.{first_pattern, first_for, NoneWithOne, found_word, CountsOf};
 
-use candidate_patterns::{Asked, Risen};
-use opening::Parameters;
+use candidate_patterns::asked::Asked;
+use candidate_patterns::{Risen, passes};
+use std::ops::ControlFlow;
 
 // The choices so far: the cells risen, how many more are left, from which cell on, and how many patterns were tried before.
 #[derive(Clone, Copy)]
@@ -21,22 +25,12 @@ struct Choices {
     tried: usize,
 }
 
-// What a part of the search found, and how many patterns were tried up to there.
-#[derive(Drop)]
-enum Sought {
-    Hit(Risen, usize),
-    Miss(usize),
-}
-
-// The first pattern, its risen cells counted and how many were tried; or that there is none.
+// A pattern that passed the test, its risen cells counted, and how many were tried up to it.
 #[derive(Clone, Copy)]
-pub enum Found {
-    Pattern {
-        risen: Risen,
-        count: usize,
-        tried: usize,
-    },
-    Nothing,
+pub struct Pattern {
+    pub risen: Risen,
+    pub count: usize,
+    pub tried: usize,
 }
 
 // The empty pattern.
@@ -49,214 +43,147 @@ const UNRISEN: Risen = Risen {
     m3: 0,
 };
 
-// No choice made, and `weight` left, from the first cell on.
-fn begin(weight: usize, tried: usize) -> Choices
-    ensures { result ≡ begun weight tried }
+// No choice left: the pattern is tested. A part of the search breaks off with the pattern that passed and how many were tried up to it,
+// or goes on with how many were tried.
+fn test_pattern(a: &Asked, rest: &[u8; 12], k: Choices) -> ControlFlow<(Risen, usize), usize>
+    requires reached { Reached a.now k rest.now × (k.left ≡ 0) }
+    requires room { k.tried + length (cells_left a.now k) ≤ 4096 }
+    ensures { sought_as a.now.code.n result ≡ seek (test_for a.now) (cells_left a.now k) k.tried }
 {
-    Choices {
-        risen: UNRISEN,
-        left: weight,
-        cell: 0,
-        tried,
+    let tried = k.tried + 1;
+    if passes(a, rest, k.risen) {
+        return ControlFlow::Break((k.risen, tried));
     }
-}
-
-// The same choices, with the next of a cell from `cell` on.
-fn at_cell(k: Choices, cell: usize, tried: usize) -> Choices
-    ensures { result ≡ at_cell k cell tried }
-{
-    let risen = k.risen;
-    Choices {
-        risen,
-        left: k.left,
-        cell,
-        tried,
-    }
-}
-
-// One choice more: the cell with the magnitude `mag`.
-fn with_magnitude(k: Choices, mag: usize, tried: usize) -> Choices
-    requires { (1 ≤ k.left) × (k.cell < 64) }
-    ensures { result ≡ with_magnitude k mag tried }
-{
-    let risen = candidate_patterns::add(k.risen, k.cell, mag);
-    Choices {
-        risen,
-        left: k.left - 1,
-        cell: k.cell + 1,
-        tried,
-    }
-}
-
-// No choice left: the pattern is tested.
-fn test_pattern(matrix: &[u8], word: &[u8], a: Asked, rest: &[u8; 12], k: Choices) -> Sought
-    requires asks { Asks a matrix.now word.now }
-    requires reached { Reached a matrix.now k rest.now × (k.left ≡ 0) }
-    requires room { k.tried + length (cells_left a matrix.now k) ≤ 4096 }
-    ensures { sought_as a.p.n result ≡ seek (test_for a matrix.now word.now) (cells_left a matrix.now k) k.tried }
-{
-    let risen = k.risen;
-    let t = k.tried + 1;
-    if candidate_patterns::passes(matrix, a, word, rest, risen) {
-        return Sought::Hit(risen, t);
-    }
-    Sought::Miss(t)
+    ControlFlow::Continue(tried)
 }
 
 // The next cell is chosen. `last` is read where two choices or more are left.
-#[cycle(choose_cell_choose_magnitude)]
+#[cycle(choosing)]
 fn choose_cell(
-    matrix: &[u8],
-    word: &[u8],
+    a: &Asked,
     last: &[u8],
-    a: Asked,
     rest: &[u8; 12],
     k: Choices,
-) -> Sought
-    requires asks { Asks a matrix.now word.now }
-    requires reached { Reached a matrix.now k rest.now }
-    requires room { k.tried + length (cells_left a matrix.now k) ≤ 4096 }
-    requires table { 2 ≤ k.left → LastCells (code_with a.p matrix.now) last.now }
-    ensures { sought_as a.p.n result ≡ seek (test_for a matrix.now word.now) (cells_left a matrix.now k) k.tried }
+) -> ControlFlow<(Risen, usize), usize>
+    requires reached { Reached a.now k rest.now }
+    requires room { k.tried + length (cells_left a.now k) ≤ 4096 }
+    requires table { 2 ≤ k.left → LastCells (the_code a.now.code) last.now }
+    ensures { sought_as a.now.code.n result ≡ seek (test_for a.now) (cells_left a.now k) k.tried }
 {
     if k.left == 0 {
-        return test_pattern(matrix, word, a, rest, k);
+        return test_pattern(a, rest, k);
     }
-    let p = a.p;
-    let n = p.n;
-    let l = p.l;
-    let left = k.left;
-    let mut t = k.tried;
-    let mut c = k.cell;
-    while c < n {
-        let here = if search_filters::cannot_end_at(matrix, p, left, c, rest) {
-            Sought::Miss(t + l)
+    let mut tried = k.tried;
+    for cell in k.cell..a.code.n {
+        tried = if search_filters::cannot_end_at(&a.code, k.left, cell, rest) {
+            tried + a.code.l
         } else {
-            choose_magnitude(matrix, word, last, a, rest, at_cell(k, c, t))
+            choose_magnitude(a, last, rest, Choices { cell, tried, ..k })?
         };
-        let Sought::Miss(u) = here else {
-            return here;
-        };
-        t = u;
-        c += 1;
     }
-    Sought::Miss(t)
+    ControlFlow::Continue(tried)
 }
 
 // The magnitude of the cell is chosen, then the next cell.
-#[cycle(choose_cell_choose_magnitude)]
+#[cycle(choosing)]
 fn choose_magnitude(
-    matrix: &[u8],
-    word: &[u8],
+    a: &Asked,
     last: &[u8],
-    a: Asked,
     rest: &[u8; 12],
     k: Choices,
-) -> Sought
-    requires asks { Asks a matrix.now word.now }
-    requires reached { Reached a matrix.now k rest.now × (1 ≤ k.left) × (k.cell < a.p.n) }
-    requires room { k.tried + length (magnitudes_left a matrix.now k) ≤ 4096 }
-    requires table { 2 ≤ k.left → LastCells (code_with a.p matrix.now) last.now }
-    ensures { sought_as a.p.n result ≡ seek (test_for a matrix.now word.now) (magnitudes_left a matrix.now k) k.tried }
+) -> ControlFlow<(Risen, usize), usize>
+    requires reached { Reached a.now k rest.now × (1 ≤ k.left) × (k.cell < a.now.code.n) }
+    requires room { k.tried + length (magnitudes_left a.now k) ≤ 4096 }
+    requires table { 2 ≤ k.left → LastCells (the_code a.now.code) last.now }
+    ensures { sought_as a.now.code.n result ≡ seek (test_for a.now) (magnitudes_left a.now k) k.tried }
 {
-    let p = a.p;
-    let l = p.l;
-    let m = p.m as u8;
-    let column = search_filters::column_of(matrix, p, k.cell);
-    let left = k.left - 1;
-    let cell = k.cell + 1;
-    let all = byte_helpers::times(p.n - cell, l);
+    let column = search_filters::column_of(&a.code, k.cell);
+    let all = byte_helpers::times(a.code.n - (k.cell + 1), a.code.l);
     let mut next = *rest;
-    let mut t = k.tried;
-    let mut mag = 0;
-    while mag < l {
-        let y = search_filters::lowered(m, next, column);
-        let inner = if search_filters::cannot_end_from(last, left, cell, &y) {
-            Sought::Miss(t + all)
+    let mut tried = k.tried;
+    for mag in 0..a.code.l {
+        let y = search_filters::lowered(a.code.m as u8, next, column);
+        tried = if search_filters::cannot_end_from(last, k.left - 1, k.cell + 1, &y) {
+            tried + all
         } else {
-            choose_cell(matrix, word, last, a, &y, with_magnitude(k, mag + 1, t))
+            let risen = Risen {
+                c1: k.cell,
+                m1: mag + 1,
+                c2: k.risen.c1,
+                m2: k.risen.m1,
+                c3: k.risen.c2,
+                m3: k.risen.m2,
+            };
+            let more = Choices {
+                risen,
+                left: k.left - 1,
+                cell: k.cell + 1,
+                tried,
+            };
+            choose_cell(a, last, &y, more)?
         };
-        let Sought::Miss(u) = inner else {
-            return inner;
-        };
-        t = u;
         next = y;
-        mag += 1;
     }
-    Sought::Miss(t)
+    ControlFlow::Continue(tried)
 }
 
-// The first pattern with two risen cells or more, where none with fewer passes the test.
-fn heavier(matrix: &[u8], word: &[u8], a: Asked, lighter: usize) -> Found
-    requires asks { Asks a matrix.now word.now }
-    requires lighter { (1 ≤ a.p.t) × NoneWithOne a matrix.now word.now lighter }
-    ensures found { found_word a.p.n result ≡ first_for a matrix.now word.now }
-    ensures counts { CountsOf (code_with a.p matrix.now) (test_for a matrix.now word.now) result }
+// The first pattern with two risen cells or more, where none of the `lighter` with fewer passes the test.
+fn heavier(a: &Asked, mut lighter: usize) -> Option<Pattern>
+    requires { (1 ≤ a.now.code.t) × NoneWithOne a.now lighter }
+    ensures found { found_word a.now.code.n result ≡ first (test_for a.now) (patterns_of (the_code a.now.code)) }
+    ensures counts { CountsOf (the_code a.now.code) (test_for a.now) result }
 {
-    let p = a.p;
-    let s = a.s;
-    let most = p.t;
     let mut last = [0u8; 4096];
-    search_filters::mark_cells(matrix, p, &mut last);
-    let mut tried = lighter;
-    let mut weight = 2;
-    while weight <= most {
-        let here = choose_cell(matrix, word, &last[..], a, &s, begin(weight, tried));
-        match here {
-            Sought::Hit(risen, u) => {
-                return Found::Pattern {
+    search_filters::mark_cells(&a.code, &mut last);
+    for weight in 2..=a.code.t {
+        let start = Choices {
+            risen: UNRISEN,
+            left: weight,
+            cell: 0,
+            tried: lighter,
+        };
+        match choose_cell(a, &last[..], &a.s, start) {
+            ControlFlow::Break((risen, u)) => {
+                return Some(Pattern {
                     risen,
                     count: weight,
                     tried: u,
-                };
+                });
             }
-            Sought::Miss(u) => {
-                tried = u;
-            }
+            ControlFlow::Continue(u) => lighter = u,
         }
-        weight += 1;
     }
-    Found::Nothing
+    None
 }
 
-// The first error pattern in document 01's order with the syndrome s and, where a codeword is asked for, that leaves one of the word.
-pub fn first_pattern(
-    matrix: &[u8],
-    p: Parameters,
-    s: [u8; 12],
-    codeword: bool,
-    word: &[u8],
-) -> Found
-    requires ready { Ready p matrix.now }
-    requires range { SyndromeInRange (code_with p matrix.now) s }
-    requires word { codeword ≡ true → Received p matrix.now word.now × Syndrome (code_with p matrix.now) word.now s }
-    ensures found { found_word p.n result ≡ first_pattern codeword (code_with p matrix.now) s word.now }
-    ensures counts { CountsOf (code_with p matrix.now) (test_of codeword (code_with p matrix.now) s word.now) result }
+// The first error pattern, in the order of the list of patterns, that passes the test.
+pub fn first_pattern(a: &Asked) -> Option<Pattern>
+    ensures found { found_word a.now.code.n result ≡ first (test_for a.now) (patterns_of (the_code a.now.code)) }
+    ensures counts { CountsOf (the_code a.now.code) (test_for a.now) result }
 {
-    let a = Asked { p, codeword, s };
-    let most = p.t;
-    if candidate_patterns::passes(matrix, a, word, &s, UNRISEN) {
-        return Found::Pattern {
+    if passes(a, &a.s, UNRISEN) {
+        return Some(Pattern {
             risen: UNRISEN,
             count: 0,
             tried: 1,
-        };
+        });
     }
-    if most == 0 {
-        return Found::Nothing;
+    if a.code.t == 0 {
+        return None;
     }
-    let one = choose_cell(matrix, word, &matrix[..0], a, &s, begin(1, 1));
-    match one {
-        Sought::Hit(risen, u) => Found::Pattern {
+    let start = Choices {
+        risen: UNRISEN,
+        left: 1,
+        cell: 0,
+        tried: 1,
+    };
+    match choose_cell(a, &a.word[..0], &a.s, start) {
+        ControlFlow::Break((risen, tried)) => Some(Pattern {
             risen,
             count: 1,
-            tried: u,
-        },
-        Sought::Miss(u) => {
-            if most == 1 {
-                return Found::Nothing;
-            }
-            heavier(matrix, word, a, u)
-        }
+            tried,
+        }),
+        ControlFlow::Continue(_) if a.code.t == 1 => None,
+        ControlFlow::Continue(lighter) => heavier(a, lighter),
     }
 }

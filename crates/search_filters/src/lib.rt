@@ -3,11 +3,11 @@
 
 ghost use Rattle.std.specs.Prelude.{◌≡◌, true, false, ℕ, ◌+◌, ◌*◌, ◌%◌, ◌<◌, ◌≤◌, length};
 ghost use Rattle.definitions.specs.Words.{at};
-ghost use Rattle.opening.specs.Opening.{code_with, Ready};
+ghost use Rattle.opening.specs.Viewed.{code as the_code};
 ghost use Rattle.syndrome.specs.Columns.{column};
 ghost use Rattle.search_filters.specs.Filters.{less_modulo, weighed_of, hash_of, Misses, NoneAt, LastCells, Marked};
 
-use opening::Parameters;
+use opening::Code;
 
 // a - e modulo m.
 fn less_modulo(m: u8, a: u8, e: u8) -> u8
@@ -23,10 +23,8 @@ pub fn lowered(m: u8, rest: [u8; 12], column: [u8; 12]) -> [u8; 12]
     ensures { (i : ℕ) → at result i ≡ less_modulo m (at rest i) (at column i) }
 {
     let mut s = rest;
-    let mut i = 0;
-    while i < 12 {
+    for i in 0..12 {
         s[i] = less_modulo(m, rest[i], column[i]);
-        i += 1;
     }
     s
 }
@@ -37,31 +35,20 @@ fn raised(m: u8, s: [u8; 12], column: [u8; 12]) -> [u8; 12]
     ensures { (i : ℕ) → at result i ≡ (at s i + at column i) % m }
 {
     let mut x = s;
-    let mut i = 0;
-    while i < 12 {
+    for i in 0..12 {
         x[i] = byte_helpers::add_modulo(m, s[i], column[i]);
-        i += 1;
     }
     x
 }
 
 // The column of a cell, for a check cell a unit column; its entries from r on are 0.
-pub fn column_of(matrix: &[u8], p: Parameters, cell: usize) -> [u8; 12]
-    requires ready { Ready p matrix.now }
-    requires cells { cell < p.n }
-    ensures { (i : ℕ) → at result i ≡ column (code_with p matrix.now) i cell }
+pub fn column_of(code: &Code, cell: usize) -> [u8; 12]
+    requires { cell < code.now.n }
+    ensures { (i : ℕ) → at result i ≡ column (the_code code.now) i cell }
 {
-    let r = p.r;
-    let w = p.n - r;
     let mut s = [0u8; 12];
-    if w <= cell {
-        s[cell - w] = 1;
-        return s;
-    }
-    let mut i = 0;
-    while i < r {
-        s[i] = byte_helpers::byte(syndrome::entry(matrix, p, i, cell));
-        i += 1;
+    for i in 0..code.r {
+        s[i] = code.column(i, cell) as u8;
     }
     s
 }
@@ -69,12 +56,12 @@ pub fn column_of(matrix: &[u8], p: Parameters, cell: usize) -> [u8; 12]
 fn weighed(a: u8, b: u8, c: u8, d: u8, e: u8, f: u8) -> usize
     ensures { (result ≡ weighed_of a b c d e f) × (result ≤ 16065) }
 {
-    byte_helpers::wide(a)
-        + 2 * byte_helpers::wide(b)
-        + 4 * byte_helpers::wide(c)
-        + 8 * byte_helpers::wide(d)
-        + 16 * byte_helpers::wide(e)
-        + 32 * byte_helpers::wide(f)
+    usize::from(a)
+        + 2 * usize::from(b)
+        + 4 * usize::from(c)
+        + 8 * usize::from(d)
+        + 16 * usize::from(e)
+        + 32 * usize::from(f)
 }
 
 // A number below 4096 for what remains: equal remainders have equal ones.
@@ -94,30 +81,20 @@ fn mark(m: u8, l: usize, column: [u8; 12], cell: usize, last: &mut [u8; 4096])
 {
     let number = (cell + 1) as u8;
     let mut s = [0u8; 12];
-    let mut mag = 0;
-    while mag < l {
+    for _ in 0..l {
         let y = raised(m, s, column);
-        let h = hash(y);
-        last[h] = number;
+        last[hash(y)] = number;
         s = y;
-        mag += 1;
     }
 }
 
 // At each hash the number, from 1, of the last cell that has a multiple with it, in a table of zeros.
-pub fn mark_cells(matrix: &[u8], p: Parameters, last: &mut [u8; 4096])
-    requires ready { Ready p matrix.now }
-    requires clear { ((h : ℕ) → at last.old h ≡ 0) × (length last.old ≡ 4096) }
-    ensures { LastCells (code_with p matrix.now) last.new }
+pub fn mark_cells(code: &Code, last: &mut [u8; 4096])
+    requires { ((h : ℕ) → at last.old h ≡ 0) × (length last.old ≡ 4096) }
+    ensures { LastCells (the_code code.now) last.new }
 {
-    let n = p.n;
-    let m = p.m as u8;
-    let l = p.l;
-    let mut c = 0;
-    while c < n {
-        let column = column_of(matrix, p, c);
-        mark(m, l, column, c, last);
-        c += 1;
+    for c in 0..code.n {
+        mark(code.m as u8, code.l, column_of(code, c), c, last);
     }
 }
 
@@ -130,7 +107,7 @@ pub fn cannot_end_from(last: &[u8], left: usize, cell: usize, rest: &[u8; 12]) -
         return false;
     }
     let h = hash(*rest);
-    byte_helpers::wide(last[h]) <= cell
+    usize::from(last[h]) <= cell
 }
 
 // A multiple of an entry modulo m; most are below m already.
@@ -143,42 +120,27 @@ fn multiple(m: usize, a: usize, b: usize) -> usize
 }
 
 // Whether what remains is `mag` times the column of a cell.
-fn is_multiple(matrix: &[u8], p: Parameters, cell: usize, mag: usize, rest: &[u8; 12]) -> bool
-    requires ready { Ready p matrix.now }
-    requires magnitude { mag ≤ p.l }
-    ensures { result ≡ false → Misses (code_with p matrix.now) cell mag rest.now }
+fn is_multiple(code: &Code, cell: usize, mag: usize, rest: &[u8; 12]) -> bool
+    requires { mag ≤ code.now.l }
+    ensures { result ≡ false → Misses (the_code code.now) cell mag rest.now }
 {
-    let r = p.r;
-    let m = p.m;
-    let mut i = 0;
-    while i < r {
-        if multiple(m, mag, syndrome::entry(matrix, p, i, cell)) != byte_helpers::wide(rest[i]) {
+    for i in 0..code.r {
+        if multiple(code.m, mag, code.column(i, cell)) != usize::from(rest[i]) {
             return false;
         }
-        i += 1;
     }
     true
 }
 
 // Whether one choice is left and this cell cannot make it: what remains is no multiple of its column.
-pub fn cannot_end_at(
-    matrix: &[u8],
-    p: Parameters,
-    left: usize,
-    cell: usize,
-    rest: &[u8; 12],
-) -> bool
-    requires ready { Ready p matrix.now }
-    ensures { result ≡ true → (left ≡ 1) × NoneAt (code_with p matrix.now) cell rest.now }
+pub fn cannot_end_at(code: &Code, left: usize, cell: usize, rest: &[u8; 12]) -> bool
+    ensures { result ≡ true → (left ≡ 1) × NoneAt (the_code code.now) cell rest.now }
 {
     if left != 1 {
         return false;
     }
-    let l = p.l;
-    let mut mag = 0;
-    while mag < l {
-        mag += 1;
-        if is_multiple(matrix, p, cell, mag, rest) {
+    for mag in 0..code.l {
+        if is_multiple(code, cell, mag + 1, rest) {
             return false;
         }
     }

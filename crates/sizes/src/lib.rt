@@ -1,50 +1,46 @@
-// Sizes that a caller needs before a call, since document 01's 8 asks for exact lengths.
+// Sizes that a caller needs before a call, since an operation refuses with 8 a buffer that is not of its exact length.
 #![tactic(auto)]
 
 ghost use Rattle.std.specs.Prelude.{◌≡◌};
 ghost use Rattle.definitions.specs.Sizes.{code_cells, stack_cells, stack_symbols};
-ghost use Rattle.answers.specs.Answering.{sized_as};
+ghost use Rattle.answers.specs.Answering.{answer_of};
 
-use answers::SizeAnswer;
-use opening::Opened;
-use stack_opening::StackOpened;
+use answers::Refusal;
+use opening::Code;
+use stack_opening::Stack;
 
 // The cells of a code, and the symbols of its message.
-pub fn code_cells(body: &[u8]) -> SizeAnswer
-    ensures { sized_as result ≡ code_cells body.now }
+#[tactic(auto, unfolding(definitions::specs::Sizes::code_cells))]
+pub fn code_cells(body: &[u8]) -> Result<usize, Refusal>
+    ensures { answer_of result ≡ code_cells body.now }
 {
-    let o = opening::open(body);
-    let Opened::Open {
-        parameters: p,
-        start: _,
-        end: _,
-    } = o
-    else {
-        return SizeAnswer::Refused(opening::why_refused(o));
+    let opened = Code::open(body);
+    let Ok(code) = opened else {
+        return Err(opened.unwrap_err());
     };
-    SizeAnswer::Size(p.n)
+    Ok(code.n)
 }
 
 // The cells of a stack.
-pub fn stack_cells(body: &[u8]) -> SizeAnswer
-    ensures { sized_as result ≡ stack_cells body.now }
+#[tactic(auto, unfolding(definitions::specs::Sizes::stack_cells))]
+pub fn stack_cells(body: &[u8]) -> Result<usize, Refusal>
+    ensures { answer_of result ≡ stack_cells body.now }
 {
-    let opened = stack_opening::open_stack(body);
-    let o = opened.answer;
-    let StackOpened::Open(s) = o else {
-        return SizeAnswer::Refused(stack_opening::why_stack_refused(o));
+    let opened = Stack::open(body);
+    let Ok(stack) = opened else {
+        return Err(opened.unwrap_err());
     };
-    SizeAnswer::Size(s.n)
+    Ok(stack.n)
 }
 
 // The digits of a stack's message.
-pub fn stack_symbols(body: &[u8]) -> SizeAnswer
-    ensures { sized_as result ≡ stack_symbols body.now }
+#[tactic(auto, unfolding(definitions::specs::Sizes::stack_symbols))]
+pub fn stack_symbols(body: &[u8]) -> Result<usize, Refusal>
+    ensures { answer_of result ≡ stack_symbols body.now }
 {
-    let opened = stack_opening::open_stack(body);
-    let o = opened.answer;
-    let StackOpened::Open(s) = o else {
-        return SizeAnswer::Refused(stack_opening::why_stack_refused(o));
+    let opened = Stack::open(body);
+    let Ok(stack) = opened else {
+        return Err(opened.unwrap_err());
     };
-    SizeAnswer::Size(s.symbols)
+    Ok(stack.symbols)
 }

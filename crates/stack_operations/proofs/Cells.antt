@@ -1,9 +1,9 @@
 -- Words cell by cell.
-use mathlib.Core.Path.{◌≡◌, sym, ap, ◌∙◌}
+use mathlib.Core.Path.{◌≡◌, sym, ◌∙◌}
 use mathlib.Core.List.{List}
 use Prim.Native.Nat.{ℕ, ◌≤◌, ◌<◌}
 use native.Mathlib.Omega.{arith}
-use lib.ListN.{length, take, length-take}
+use lib.ListN.{length, take}
 use lib.Seq.{ext_get_or, get_or-take, length-take-le}
 use Rattle.definitions.specs.Words.{at}
 
@@ -12,9 +12,3 @@ pub filled : (d x : List ℕ) (n : ℕ) → length x ≡ n → n ≤ length d �
 filled d x n e h g =
     let k = length-take-le n d h in
     ext_get_or 0 (take n d) x (k ∙ sym e) (λ j l. get_or-take n d j 0 (omega arith) ∙ g j (omega arith))
-
--- a list whose first n cells are a word of n cells
-pub long_enough : (d x : List ℕ) (n : ℕ) → take n d ≡ x → length x ≡ n → n ≤ length d
-long_enough d x n e l =
-    let f : length (take n d) ≡ n = ap length e ∙ l in
-    omega (arith, length-take n d)

@@ -1,58 +1,34 @@
-// The operations on stacks that need no search: test, encode, recover. Each takes a stack's description; the others take a message or a
-// word and an output buffer too, and write to the buffer only after all refusals.
+// What the operations on stacks do besides searching: acceptance, the tests of words and messages, and what recover and encode store.
 #![tactic(auto)]
 
-ghost use Rattle.std.specs.Prelude.{◌≡◌, ℕ, ◌+◌, ◌*◌, ◌-◌, ◌/◌, ◌%◌, ◌<◌, ◌≤◌, length, take};
-ghost use Rattle.definitions.specs.Words.{at, EachCell};
+ghost use Rattle.std.specs.Prelude.{◌≡◌, true, ◌-◌, ◌/◌, ◌%◌, ◌<◌, ◌≤◌, length, take, All};
+ghost use Rattle.std.specs.List.{list_all};
+ghost use Rattle.definitions.specs.Words.{at, all_below};
+ghost use Rattle.definitions.specs.Acceptance.{accepted};
 ghost use Rattle.definitions.specs.Stacks.{digits};
-ghost use Rattle.definitions.specs.StackCodewords.{StackCodeword, AcceptedStack, accepted_stack};
-ghost use Rattle.definitions.specs.StackMessages.{message_length, StackMessage, digits_fit, stack_message, encode_plane, encode_word};
-ghost use Rattle.definitions.specs.StackOperations.{test_stack, encode_stack, recover_stack};
-ghost use Rattle.definitions.specs.Demands.{of_stack, Tested, OneCodeword, Recovered};
-ghost use Rattle.opening.specs.Opening.{code_with, Ready};
-ghost use Rattle.answers.specs.Answering.{tested_as, written_as, leaves};
-ghost use Rattle.stack_opening.specs.StackOpening.{stack_in, StackReady};
-ghost use Rattle.stack_operations.specs.StackClauses.{WhereStackOpens, Described, WhereReady, digits_pass};
+ghost use Rattle.definitions.specs.StackCodewords.{accepted_stack, is_stack_codeword};
+ghost use Rattle.definitions.specs.StackMessages.{StackMessage, digits_fit, stack_message, encode_plane, encode_word};
+ghost use Rattle.opening.specs.Viewed.{code as the_code};
+ghost use Rattle.stack_opening.specs.Viewed.{stack as the_stack};
+ghost use Rattle.stack_operations.specs.Parts.{zero_digits};
 
-use answers::{Refusal, TestAnswer, WriteAnswer};
-use opening::Parameters;
-use stack_opening::{Plane, StackOpened, StackParameters};
+use opening::Code;
+use stack_opening::{Plane, Stack};
 
-// Whether each plane is accepted.
-fn planes_accepted(body: &[u8], s: StackParameters, planes: [Plane; 6]) -> bool
-    requires { StackReady body.now s planes }
-    ensures { result ≡ accepted_stack (stack_in body.now s planes) }
+fn planes_accepted(planes: &[Plane<'_>]) -> bool
+    ensures { result ≡ list_all (λ p. accepted (the_code p.code)) planes.now }
 {
-    let m = s.m;
-    let mut j = 0;
-    while j < m {
-        let p = planes[j];
-        let start = p.start;
-        let end = p.end;
-        if !acceptance::is_accepted(&body[start..end], p.parameters) {
-            return false;
-        }
-        j += 1;
-    }
-    true
+    planes
+        .iter()
+        .all(|plane| acceptance::is_accepted(&plane.code))
 }
 
-// Document 01: test a stack.
-pub fn test_stack(body: &[u8]) -> TestAnswer
-    ensures answer { tested_as result ≡ test_stack body.now }
-    ensures accepted { WhereStackOpens body.now (λ S. Tested (AcceptedStack S) (tested_as result)) }
+// Whether each plane is accepted.
+#[tactic(auto, using(crate::proofs::Planes::accepted_is))]
+pub fn is_accepted(stack: &Stack) -> bool
+    ensures { result ≡ accepted_stack (the_stack stack.now) }
 {
-    let opened = stack_opening::open_stack(body);
-    let o = opened.answer;
-    let StackOpened::Open(s) = o else {
-        return TestAnswer::Refused(stack_opening::why_stack_refused(o));
-    };
-    let planes = opened.planes;
-    if planes_accepted(body, s, planes) {
-        TestAnswer::Accepted
-    } else {
-        TestAnswer::Refused(Refusal::NotAccepted)
-    }
+    planes_accepted(&stack.planes[..stack.m])
 }
 
 // A level's digit of place value w below c.
@@ -60,7 +36,7 @@ fn digit(level: u8, w: usize, c: usize) -> u8
     requires { (1 ≤ w) × (1 ≤ c) }
     ensures { result ≡ level / w % c }
 {
-    (byte_helpers::wide(level) / w % c) as u8
+    (usize::from(level) / w % c) as u8
 }
 
 // The digits of a word's levels, in its first cells.
@@ -69,180 +45,103 @@ pub fn digits(word: &[u8], w: usize, c: usize) -> [u8; 64]
     ensures { take (length word.now) result ≡ digits w c word.now }
 {
     let mut d = [0u8; 64];
-    let mut i = 0;
-    while i < word.len() {
+    for i in 0..word.len() {
         d[i] = digit(word[i], w, c);
-        i += 1;
     }
     d
 }
 
-// Whether the digits of each plane are a codeword of it.
-fn digits_are_codewords(body: &[u8], s: StackParameters, planes: [Plane; 6], word: &[u8]) -> bool
-    requires stack_ready { StackReady body.now s planes }
-    requires word_len { length word.now ≡ s.n }
-    ensures { result ≡ digits_pass (stack_in body.now s planes) word.now }
+// Whether the digits of each plane have syndrome 0.
+fn digits_are_codewords(planes: &[Plane<'_>], word: &[u8]) -> bool
+    requires small { length word.now ≤ 64 }
+    requires long { All (λ p. p.code.n ≡ length word.now) planes.now }
+    ensures { result ≡ list_all (zero_digits word.now) planes.now }
 {
-    let n = s.n;
-    let m = s.m;
-    let mut j = 0;
-    while j < m {
-        let p = planes[j];
-        let start = p.start;
-        let end = p.end;
-        let code = p.parameters;
-        let d = digits(word, p.w, code.m);
-        if !syndrome::has_zero_syndrome(&body[start..end], code, &d[..n]) {
+    for plane in planes {
+        let d = digits(word, plane.w, plane.code.m);
+        if !plane.code.has_zero_syndrome(&d[..word.len()]) {
             return false;
         }
-        j += 1;
     }
     true
 }
 
-// The message that a word carries, plane by plane.
-fn store_message(s: StackParameters, planes: [Plane; 6], word: &[u8], out: &mut [u8])
-    requires described { Described s planes }
-    requires word_len { (length word.now ≡ s.n) × (length out.old ≡ s.symbols) }
-    ensures { WhereReady s planes (λ S. out.new ≡ stack_message S word.now) }
+// Whether a word, its levels below q, is a codeword: the digits of each plane are a codeword of it.
+#[tactic(auto, using(crate::proofs::Planes::codeword_by_digits))]
+pub fn is_codeword(stack: &Stack, word: &[u8]) -> bool
+    requires long { length word.now ≡ stack.now.n }
+    requires levels { all_below stack.now.q word.now ≡ true }
+    ensures { result ≡ is_stack_codeword (the_stack stack.now) word.now }
 {
-    let n = s.n;
-    let m = s.m;
-    let mut j = 0;
-    while j < m {
-        let p = planes[j];
-        let code = p.parameters;
-        let k = n - code.r;
-        let start = p.symbol;
-        let end = start + k;
-        let d = digits(word, p.w, code.m);
-        byte_helpers::copy(&d[..k], &mut out[start..end]);
-        j += 1;
-    }
+    digits_are_codewords(&stack.planes[..stack.m], word)
 }
 
-// Document 01: recover a message.
-pub fn recover_stack(body: &[u8], word: &[u8], out: &mut [u8]) -> WriteAnswer
-    ensures result { leaves (written_as result) out.new ≡ recover_stack body.now word.now out.old }
-    ensures recovered { WhereStackOpens body.now (λ S. StackCodeword S word.now
-        → length out.old ≡ message_length S.planes → Recovered (of_stack S) word.now (written_as result) out.new) }
+// The message that a word carries, plane by plane.
+pub fn store_message(stack: &Stack, word: &[u8], out: &mut [u8])
+    requires long { length word.now ≡ stack.now.n }
+    requires room { length out.old ≡ stack.now.symbols }
+    ensures { out.new ≡ stack_message (the_stack stack.now) word.now }
 {
-    let opened = stack_opening::open_stack(body);
-    let o = opened.answer;
-    let StackOpened::Open(s) = o else {
-        return WriteAnswer::Refused(stack_opening::why_stack_refused(o));
-    };
-    if !answers::buffers_fit(word.len(), s.n, out.len(), s.symbols) {
-        return WriteAnswer::Refused(Refusal::WrongBuffer);
+    let mut at = 0;
+    for plane in &stack.planes[..stack.m] {
+        let k = stack.n - plane.code.r;
+        let d = digits(word, plane.w, plane.code.m);
+        out[at..at + k].copy_from_slice(&d[..k]);
+        at += k;
     }
-    if !byte_helpers::all_below(s.q, word) {
-        return WriteAnswer::Refused(Refusal::LevelTooLarge);
-    }
-    let planes = opened.planes;
-    if !digits_are_codewords(body, s, planes, word) {
-        return WriteAnswer::Refused(Refusal::NotACodeword);
-    }
-    store_message(s, planes, word, out);
-    WriteAnswer::Written
 }
 
 // Whether the digits of a message are below their planes' c.
-fn digits_fit(s: StackParameters, planes: [Plane; 6], message: &[u8]) -> bool
-    requires described { Described s planes }
-    requires message_len { length message.now ≡ s.symbols }
-    ensures { WhereReady s planes (λ S. result ≡ digits_fit S.planes message.now) }
+pub fn digits_fit(stack: &Stack, message: &[u8]) -> bool
+    requires { length message.now ≡ stack.now.symbols }
+    ensures { result ≡ digits_fit (the_stack stack.now).planes message.now }
 {
-    let n = s.n;
-    let m = s.m;
-    let mut j = 0;
-    while j < m {
-        let p = planes[j];
-        let code = p.parameters;
-        let start = p.symbol;
-        let end = start + (n - code.r);
-        if !byte_helpers::all_below(code.m, &message[start..end]) {
+    let mut at = 0;
+    for plane in &stack.planes[..stack.m] {
+        let end = at + (stack.n - plane.code.r);
+        if !byte_helpers::all_below(plane.code.m, &message[at..end]) {
             return false;
         }
-        j += 1;
+        at = end;
     }
     true
 }
 
 // Digit i + 1 of a plane's codeword.
-fn plane_digit(matrix: &[u8], p: Parameters, symbols: &[u8], i: usize) -> usize
-    requires ready { Ready p matrix.now }
-    requires symbols { (p.n - p.r ≤ length symbols.now) × EachCell (λ v. v < p.m) (take (p.n - p.r) symbols.now) }
-    requires cell { i < p.n }
-    ensures { (result ≡ at (encode_plane (code_with p matrix.now) symbols.now) i) × (result < p.m) }
+fn plane_digit(code: &Code, symbols: &[u8], i: usize) -> usize
+    requires { (code.now.n - code.now.r ≤ length symbols.now) × (i < code.now.n) }
+    ensures { result ≡ at (encode_plane (the_code code.now) symbols.now) i }
 {
-    let n = p.n;
-    let k = n - p.r;
+    let k = code.n - code.r;
     if i < k {
-        return byte_helpers::wide(symbols[i]);
+        return usize::from(symbols[i]);
     }
-    syndrome::filling(matrix, p, symbols, i - k)
+    code.filling(symbols, i - k)
 }
 
-// The levels once a plane's digits, of place value w, are added.
-fn add_digits(matrix: &[u8], p: Parameters, symbols: &[u8], w: usize, levels: [u8; 64]) -> [u8; 64]
-    requires ready { Ready p matrix.now }
-    requires symbols { (p.n - p.r ≤ length symbols.now) × EachCell (λ v. v < p.m) (take (p.n - p.r) symbols.now) }
-    requires value { (w * p.m ≤ 64) × ((i : ℕ) → at levels i < w) }
-    ensures sum { (i : ℕ) → i < p.n → at result i ≡ at levels i + at (encode_plane (code_with p matrix.now) symbols.now) i * w }
-    ensures below { (i : ℕ) → at result i < w * p.m }
+// Level i + 1 of the codeword that carries a message.
+fn level(stack: &Stack, message: &[u8], i: usize) -> usize
+    requires message { StackMessage (the_stack stack.now) message.now }
+    requires cell { i < stack.now.n }
+    ensures { (result ≡ at (encode_word (the_stack stack.now) message.now) i) × (result < 64) }
 {
-    let n = p.n;
-    let mut x = levels;
-    let mut i = 0;
-    while i < n {
-        let d = plane_digit(matrix, p, symbols, i);
-        x[i] = (byte_helpers::wide(levels[i]) + byte_helpers::times(d, w)) as u8;
-        i += 1;
+    let mut at = 0;
+    let mut sum = 0;
+    for plane in &stack.planes[..stack.m] {
+        sum += plane_digit(&plane.code, &message[at..], i) * plane.w;
+        at += stack.n - plane.code.r;
     }
-    x
+    sum
 }
 
-// The levels of the codeword that carries a message.
-fn encoded(body: &[u8], s: StackParameters, planes: [Plane; 6], message: &[u8]) -> [u8; 64]
-    requires stack_ready { StackReady body.now s planes }
-    requires stack_message { StackMessage (stack_in body.now s planes) message.now }
-    ensures { take s.n result ≡ encode_word (stack_in body.now s planes) message.now }
+// The codeword that carries a message.
+pub fn store_codeword(stack: &Stack, message: &[u8], out: &mut [u8])
+    requires fits { digits_fit (the_stack stack.now).planes message.now ≡ true }
+    requires long { length message.now ≡ stack.now.symbols }
+    requires room { length out.old ≡ stack.now.n }
+    ensures { out.new ≡ encode_word (the_stack stack.now) message.now }
 {
-    let m = s.m;
-    let mut x = [0u8; 64];
-    let mut j = 0;
-    while j < m {
-        let p = planes[j];
-        let start = p.start;
-        let end = p.end;
-        let symbol = p.symbol;
-        let y = add_digits(&body[start..end], p.parameters, &message[symbol..], p.w, x);
-        x = y;
-        j += 1;
+    for (i, cell) in out.iter_mut().enumerate() {
+        *cell = level(stack, message, i) as u8;
     }
-    x
-}
-
-// Document 01: write.
-pub fn encode_stack(body: &[u8], message: &[u8], out: &mut [u8]) -> WriteAnswer
-    ensures result { leaves (written_as result) out.new ≡ encode_stack body.now message.now out.old }
-    ensures one_codeword { WhereStackOpens body.now (λ S. StackMessage S message.now
-        → length out.old ≡ S.n → OneCodeword (of_stack S) message.now (written_as result) out.new) }
-{
-    let opened = stack_opening::open_stack(body);
-    let o = opened.answer;
-    let StackOpened::Open(s) = o else {
-        return WriteAnswer::Refused(stack_opening::why_stack_refused(o));
-    };
-    if !answers::buffers_fit(message.len(), s.symbols, out.len(), s.n) {
-        return WriteAnswer::Refused(Refusal::WrongBuffer);
-    }
-    let planes = opened.planes;
-    if !digits_fit(s, planes, message) {
-        return WriteAnswer::Refused(Refusal::SymbolTooLarge);
-    }
-    let x = encoded(body, s, planes, message);
-    let n = s.n;
-    byte_helpers::copy(&x[..n], out);
-    WriteAnswer::Written
 }

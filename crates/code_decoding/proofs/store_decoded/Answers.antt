@@ -1,27 +1,15 @@
-use mathlib.Core.Path.{◌≡◌, sym, ◌∙◌}
-use native.Mathlib.Omega.{arith}
-use lib.ListN.{length, length-set}
-use borrow.Author.Rules.{rules}
-use Rattle.definitions.specs.Words.{subtract}
-use Rattle.candidate_patterns.specs.Candidates.{word_of}
-use Rattle.code_decoding.proofs.Decoding.{subtract-long}
-use Rattle.code_operations.proofs.Storing.{store_next, store_end}
+use Rattle.std.proofs.Common.{arith, ext_get_or}
+use Rattle.std.proofs.lemmas.Grind.{common_steps}
+use Rattle.code_decoding.proofs.Decoding.{subtract-at, subtract-long}
 use Rattle.code_decoding.proofs.store_decoded.Goals as goal
 
 pub loop-i-preserved : goal.loop-i-preserved
-loop-i-preserved c =
-    let same : length (subtract c.args.word.now (word_of (length c.args.word.now) c.args.k)) ≡ length c.args.out.now =
-    subtract-long c.args.word.now c.args.k ∙ sym c.requires in (
-      search rules,
-      simp length-set c.loop-i.invariant.1,
-      store_next (subtract c.args.word.now (word_of (length c.args.word.now) c.args.k)) c.args.out.now same c.loop-i.out c.loop-i.i
-          c.decoded_cell.result c.loop-i.invariant.2
-          (omega arith) c.decoded_cell.ensures,
-    )
+loop-i-preserved c k h =
+    let e =
+    subtract-at c.args.word.now c.args.k c.loop-i.i c.from.result c.magnitude_at.result (omega arith) c.from.ensures c.magnitude_at.ensures in
+    grind (arith, common_steps, c.loop-i.invariant k, e)
 
 pub returns : goal.returns
 returns c =
-    let same : length (subtract c.args.word.now (word_of (length c.args.word.now) c.args.k)) ≡ length c.args.out.now =
-    subtract-long c.args.word.now c.args.k ∙ sym c.requires in
-    store_end (subtract c.args.word.now (word_of (length c.args.word.now) c.args.k)) c.args.out.now same c.loop-i.out c.loop-i.i
-    c.loop-i.invariant.2 (omega arith)
+    let long = subtract-long c.args.word.now c.args.k in
+    ext_get_or 0 _ _ (omega (arith, long)) (λ i h. c.loop-i.invariant i (omega arith))

@@ -1,83 +1,70 @@
-use mathlib.Core.Path.{◌≡◌, sym, ap, ◌∙◌, subst}
+use Rattle.std.proofs.Common.{◌≡◌, ℕ, ◌+◌, ◌-◌, ◌≤◌, length, sym, ap, ◌∙◌, subst, arith}
 use mathlib.Core.Option.{none}
-use Prim.Native.Nat.{ℕ, ◌+◌, ◌-◌, ◌≤◌}
-use native.Mathlib.Omega.{arith}
 use native.Mathlib.Nat.{zero-add}
-use borrow.Author.Rules.{rules}
-use lib.ListN.{length, length-replicate}
-use Rattle.opening.specs.Opening.{code_with}
+use lib.ListN.{length-replicate}
 use Rattle.word_laws.proofs.Filling.{zeros-at}
-use Rattle.candidate_patterns.specs.Candidates.{test_for, unrisen}
 use Rattle.candidate_patterns.proofs.Choices.{chosen_none}
 use Rattle.candidate_patterns.proofs.Syndromes.{remains_all}
-use Rattle.search.specs.declared.Choices.{Choices}
-use Rattle.search.specs.Search.{begun, Reached, cells_from, cells_left, seek, sought_as}
+use Rattle.opening.specs.Viewed.{code}
+use Rattle.search.specs.Search.{seek, sought_as}
+use Rattle.candidate_patterns.specs.Candidates.{test_for}
+use Rattle.search.proofs.Ruled.{range}
 use Rattle.search.proofs.Order.{all_tried}
 use Rattle.search.proofs.Whole.{up_to, answer_none, answer-found, answer_counts, found_weighs, weight_done, room_all}
 use Rattle.search.proofs.heavier.Goals as goal
 
-pub mark_cells-requires-clause-clear : goal.mark_cells-requires-clause-clear
-mark_cells-requires-clause-clear c = ((λ h. zeros-at 4096 h), length-replicate {A = ℕ} 4096 0)
+pub mark_cells-requires : goal.mark_cells-requires
+mark_cells-requires c = ((λ h. zeros-at 4096 h), length-replicate {A = ℕ} 4096 0)
 
-pub choose_cell-here-requires-clause-reached : goal.choose_cell-here-requires-clause-reached
-choose_cell-here-requires-clause-reached c =
-    let reached : Reached c.args.a c.args.matrix.now (begun c.loop-weight.weight c.loop-weight.tried) c.args.a.s =
+pub choose_cell-requires-clause-reached : goal.choose_cell-requires-clause-reached
+choose_cell-requires-clause-reached c = record {
+  chosen = chosen_none c.loop-weight.weight (omega arith);
+  cells = omega arith;
+  remains = remains_all (code c.args.a.now.code) c.args.a.now.s (range c.args.a.now);
+}
+
+pub choose_cell-requires-clause-room : goal.choose_cell-requires-clause-room
+choose_cell-requires-clause-room c =
+    let a = c.args.a.now in
+    let l = c.loop-weight in
+    let before = up_to (code a.code) (l.weight - 1) in
+    room_all (code a.code) l.weight l.lighter (omega arith) (omega arith)
+    (all_tried (test_for a) before 0 l.lighter l.invariant.1 ∙ zero-add (length before)) a.code.few
+
+pub returns-in-Break : goal.returns-in-Break
+returns-in-Break c =
+    let p = code c.args.a.now.code in
+    let f = test_for c.args.a.now in
+    let l = c.loop-weight in
+    let few : l.weight ≤ p.t = omega arith in
+    let found = sym (ap (sought_as p.n) c.in-Break.is) ∙ c.choose_cell.ensures in
+    let done = weight_done p f l.weight l.lighter (omega arith) l.invariant.1 _ found in
     record {
-      chosen = chosen_none c.loop-weight.weight (omega arith);
-      cells = omega arith;
-      remains = remains_all
-          (code_with c.args.a.p c.args.matrix.now) c.args.a.s c.requires.asks.range;
-    } in
-    let e = sym c.begin.ensures in
-    subst (λ (x : Choices). Reached c.args.a c.args.matrix.now x c.args.a.s) e reached
-
-pub choose_cell-here-requires-clause-room : goal.choose_cell-here-requires-clause-room
-choose_cell-here-requires-clause-room c =
-    let room = room_all (code_with c.args.a.p c.args.matrix.now) c.loop-weight.weight c.loop-weight.tried (omega (arith, c.loop-weight.invariant.0))
-    c.loop-weight-test.true
-    (all_tried (test_for c.args.a c.args.matrix.now c.args.word.now) (up_to (code_with c.args.a.p c.args.matrix.now) (c.loop-weight.weight - 1)) 0
-    c.loop-weight.tried c.loop-weight.invariant.2
-    ∙ zero-add (length (up_to (code_with c.args.a.p c.args.matrix.now) (c.loop-weight.weight - 1)))) c.requires.asks.ready.few in
-    let e = sym c.begin.ensures in
-    subst
-    (λ (x : Choices). x.tried + length (cells_left c.args.a c.args.matrix.now x) ≤ 4096) e room
-
-pub returns-in-Hit : goal.returns-in-Hit
-returns-in-Hit c =
-    let gave : sought_as c.args.a.p.n c.choose_cell-here.result ≡ seek (test_for c.args.a c.args.matrix.now c.args.word.now)
-    (cells_from (code_with c.args.a.p c.args.matrix.now) unrisen c.loop-weight.weight 0) c.loop-weight.tried =
-    subst (λ (x : Choices). sought_as c.args.a.p.n c.choose_cell-here.result ≡ seek (test_for c.args.a c.args.matrix.now c.args.word.now)
-    (cells_left c.args.a c.args.matrix.now x) x.tried)
-    c.begin.ensures c.choose_cell-here.ensures in
-    let found = sym (ap (sought_as c.args.a.p.n) c.in-Hit.is) ∙ gave in
-    let done = weight_done (code_with c.args.a.p c.args.matrix.now) (test_for c.args.a c.args.matrix.now c.args.word.now) c.loop-weight.weight
-    c.loop-weight.tried (omega (arith, c.loop-weight.invariant.0)) c.loop-weight.invariant.2 _ found in
-    record {
-      found = answer-found (code_with c.args.a.p c.args.matrix.now) (test_for c.args.a c.args.matrix.now c.args.word.now) _
-          c.loop-weight.weight c.loop-weight.weight _ c.loop-weight-test.true done;
-      counts =
-          answer_counts (code_with c.args.a.p c.args.matrix.now) (test_for c.args.a c.args.matrix.now c.args.word.now) _ c.loop-weight.weight
-          c.loop-weight.weight _ c.loop-weight-test.true done
-          (found_weighs (code_with c.args.a.p c.args.matrix.now) (test_for c.args.a c.args.matrix.now c.args.word.now) c.loop-weight.weight
-          c.loop-weight.tried _ _ found);
+      found = answer-found p f _ l.weight l.weight _ few done;
+      counts = answer_counts p f _ l.weight l.weight _ few done (found_weighs p f l.weight l.lighter _ _ found);
     }
 
 pub loop-weight-preserved : goal.loop-weight-preserved
 loop-weight-preserved c =
-    let gave : sought_as c.args.a.p.n c.choose_cell-here.result ≡ seek (test_for c.args.a c.args.matrix.now c.args.word.now)
-    (cells_from (code_with c.args.a.p c.args.matrix.now) unrisen c.loop-weight.weight 0) c.loop-weight.tried =
-    subst (λ (x : Choices). sought_as c.args.a.p.n c.choose_cell-here.result ≡ seek (test_for c.args.a c.args.matrix.now c.args.word.now)
-    (cells_left c.args.a c.args.matrix.now x) x.tried)
-    c.begin.ensures c.choose_cell-here.ensures in
-    let missed = sym (ap (sought_as c.args.a.p.n) c.in-Miss.is) ∙ gave in
-    let done = weight_done (code_with c.args.a.p c.args.matrix.now) (test_for c.args.a c.args.matrix.now c.args.word.now) c.loop-weight.weight
-    c.loop-weight.tried (omega (arith, c.loop-weight.invariant.0)) c.loop-weight.invariant.2 _ missed in
-    let e : c.loop-weight.weight + 1 - 1 ≡ c.loop-weight.weight = omega arith in
-    (search rules, search rules, rw e done)
+    let p = code c.args.a.now.code in
+    let f = test_for c.args.a.now in
+    let l = c.loop-weight in
+    let e : l.weight + 1 - 1 ≡ l.weight = omega arith in
+    let done = weight_done p f l.weight l.lighter (omega arith) l.invariant.1 _ (sym (ap (sought_as p.n) c.in-Continue.is) ∙ c.choose_cell.ensures) in
+    (omega arith, rw e done)
 
 pub returns-clause-found : goal.returns-clause-found
 returns-clause-found c =
-    let e : c.loop-weight.weight - 1 ≡ c.args.a.p.t = omega arith in
-    answer_none (code_with c.args.a.p c.args.matrix.now) (test_for c.args.a c.args.matrix.now c.args.word.now)
-    c.loop-weight.tried (subst (λ (w : ℕ). seek (test_for c.args.a c.args.matrix.now c.args.word.now)
-    (up_to (code_with c.args.a.p c.args.matrix.now) w) 0 ≡ (none, c.loop-weight.tried)) e c.loop-weight.invariant.2)
+    let p = code c.args.a.now.code in
+    let f = test_for c.args.a.now in
+    let e : c.loop-weight.weight - 1 ≡ p.t = omega arith in
+    answer_none p f c.loop-weight.lighter (subst (λ (w : ℕ). seek f (up_to p w) 0 ≡ (none, c.loop-weight.lighter)) e c.loop-weight.invariant.1)
+
+pub returns-in-Continue-clause-found : goal.returns-in-Continue-clause-found
+returns-in-Continue-clause-found c =
+    let p = code c.args.a.now.code in
+    let f = test_for c.args.a.now in
+    let l = c.loop-weight in
+    let e : l.weight ≡ p.t = omega arith in
+    let done = weight_done p f l.weight l.lighter (omega arith) l.invariant.1 _ (sym (ap (sought_as p.n) c.in-Continue.is) ∙ c.choose_cell.ensures) in
+    answer_none p f c.in-Continue.u (subst (λ (w : ℕ). seek f (up_to p w) 0 ≡ (none, c.in-Continue.u)) e done)

@@ -1,11 +1,9 @@
-use borrow.Author.Rules.{rules}
-use Rattle.opening.specs.Opening.{code_with}
-use Rattle.search_filters.proofs.Columns.{unit_column, all_column}
+use Rattle.std.proofs.Common.{rules}
+use Rattle.opening.specs.Viewed.{code}
+use Rattle.search_filters.proofs.Columns.{all_column}
 use Rattle.search_filters.proofs.column_of.Goals as goal
 
-pub returns-then-w-cell : goal.returns-then-w-cell
-returns-then-w-cell c = unit_column (code_with c.args.p c.args.matrix.now) c.args.cell c.if-w-cell.true c.requires.cells c.requires.ready.r-high
-
 pub returns : goal.returns
-returns c = all_column (code_with c.args.p c.args.matrix.now) c.args.cell c.loop-i.s c.requires.ready.matrix c.requires.cells c.loop-i.i
-    (search rules) c.loop-i.invariant.2 c.loop-i.invariant.3
+returns c =
+    all_column (code c.args.code.now) c.args.cell c.loop-i.s c.args.code.now.size c.requires c.loop-i.i (search rules) c.loop-i.invariant.done
+    c.loop-i.invariant.left

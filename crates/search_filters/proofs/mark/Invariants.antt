@@ -1,14 +1,9 @@
-use mathlib.Core.Path.{◌≡◌}
-use Prim.Native.Nat.{ℕ, ◌-◌, ◌≤◌}
-use lib.ListN.{length}
+use Rattle.std.proofs.Common.{◌≡◌, ℕ, length}
 use Rattle.definitions.specs.Words.{at}
 use Rattle.search_filters.specs.Filters.{times_of, Marked}
 use Rattle.search_filters.proofs.mark.Given as goal
 
--- the multiples up to mag are marked
-abbrev pub invariant-loop-mag : goal.invariant-loop-mag
-invariant-loop-mag l = (l.mag ≤ l.l) × (length l.last ≡ 4096) × ((i : ℕ) → at l.s i ≡ times_of l.m (at l.column) l.mag i)
-    × Marked (at l.column) l.m l.cell l.mag l.initial.last l.last
-
-abbrev pub decreases-loop-mag : goal.decreases-loop-mag
-decreases-loop-mag l = l.l - l.mag
+-- the multiples so far are marked
+abbrev pub invariant-loop : goal.invariant-loop
+invariant-loop l = (length l.last ≡ 4096) × ((i : ℕ) → at l.s i ≡ times_of l.m (at l.column) l.counter i)
+    × Marked (at l.column) l.m l.cell l.counter l.initial.last l.last

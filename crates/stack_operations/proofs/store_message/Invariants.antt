@@ -1,18 +1,12 @@
-use mathlib.Core.Path.{◌≡◌}
-use mathlib.Core.List.{List, ◌++◌}
-use Prim.Native.Nat.{ℕ, ◌-◌, ◌≤◌}
-use lib.ListN.{length, take}
-use Rattle.stack_opening.specs.StackOpening.{planes_in, PlanesReady}
-use Rattle.stack_opening.proofs.Planes.{value_at, symbol_at, planes_from}
-use Rattle.definitions.specs.StackMessages.{message_from}
+use Rattle.std.proofs.Common.{◌≡◌, ◌+◌, ◌++◌, take, drop, length}
+use Rattle.definitions.specs.StackMessages.{message_length}
+use Rattle.stack_opening.specs.Planes.{as_codes}
+use Rattle.stack_operations.specs.Parts.{parts}
 use Rattle.stack_operations.proofs.store_message.Given as goal
 
-abbrev pub invariant-loop-j : goal.invariant-loop-j
-invariant-loop-j l = (l.j ≤ l.m)
-    × (length l.out ≡ length l.initial.out)
-    × ((b : List ℕ) → PlanesReady b l.n l.planes l.m
-    → message_from 1 (planes_in b l.planes l.m) l.word ≡ take (symbol_at b l.planes l.j) l.out ++ message_from (value_at b l.planes l.j)
-    (planes_from b l.planes l.m l.j) l.word)
-
-abbrev pub decreases-loop-j : goal.decreases-loop-j
-decreases-loop-j l = l.m - l.j
+abbrev pub invariant-loop-plane : goal.invariant-loop-plane
+invariant-loop-plane l = record {
+  long : length l.out ≡ length l.initial.out;
+  room : l.at + message_length (as_codes (drop l.plane-index (take l.stack.m l.stack.planes))) ≡ length l.initial.out;
+  done : parts l.word (take l.stack.m l.stack.planes) ≡ take l.at l.out ++ parts l.word (drop l.plane-index (take l.stack.m l.stack.planes));
+}

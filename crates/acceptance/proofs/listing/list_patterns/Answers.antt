@@ -1,22 +1,18 @@
-use mathlib.Core.Path.{sym}
-use native.Mathlib.Omega.{arith}
-use borrow.Author.Rules.{rules}
+use Rattle.std.proofs.Common.{sym, arith}
+use Rattle.opening.specs.Viewed.{code}
 use Rattle.acceptance.proofs.Storing.{store_none, store_as, store_both}
 use Rattle.acceptance.proofs.Weights.{lighter_none, lighter_more, lighter_all, room}
 use Rattle.acceptance.proofs.listing.list_patterns.Goals as goal
 
 pub loop-w-init : goal.loop-w-init
-loop-w-init c = (search rules, store_none _ _ _ (lighter_none c.args.p c.args.columns.now))
+loop-w-init c = store_none _ _ (lighter_none (code c.args.columns.now.code))
 
-pub choose_cell-at-requires-clause-room : goal.choose_cell-at-requires-clause-room
-choose_cell-at-requires-clause-room c = room c.args.p c.args.columns.now _ _ _ (omega arith) c.requires.room c.loop-w.invariant.1.next
+pub choose_cell-requires-clause-room : goal.choose_cell-requires-clause-room
+choose_cell-requires-clause-room c = room (code c.args.columns.now.code) _ _ _ _ (omega arith) c.requires c.loop-w.invariant.count
 
 pub loop-w-preserved : goal.loop-w-preserved
-loop-w-preserved c = (
-  omega arith,
-  store_both _ _ _ _ _ _ _ _ _ (lighter_more c.args.p c.args.columns.now c.loop-w.w) c.loop-w.invariant.1
-      c.choose_cell-at.ensures,
-)
+loop-w-preserved c =
+    store_both _ _ _ _ _ _ (lighter_more (code c.args.columns.now.code) c.loop-w.w) c.loop-w.invariant c.choose_cell.ensures
 
 pub returns : goal.returns
-returns c = store_as _ _ _ _ _ _ (sym (lighter_all c.args.p c.args.columns.now _ (omega arith))) c.loop-w.invariant.1
+returns c = store_as _ _ _ _ (sym (lighter_all (code c.args.columns.now.code) _ (omega arith))) c.loop-w.invariant

@@ -1,0 +1,54 @@
+// The columns of a code's matrix as a table. A column has 16 entries, those past r being 0, so that a cell is raised by one pass over them.
+ghost use Rattle.std.specs.Prelude.{◌≡◌, [], ℕ, ◌<◌, length, slice_index_or};
+ghost use Rattle.definitions.specs.Words.{at, EachCell};
+ghost use Rattle.opening.specs.Viewed.{code as the_code};
+ghost use Rattle.syndrome.specs.Columns.{column};
+ghost use Rattle.acceptance.specs.Listing.{raised};
+
+use opening::Code;
+
+// A code and the columns of its n cells.
+#[derive(Drop)]
+pub struct Columns<'a> {
+    pub code: Code<'a>,
+    pub table: [[u8; 16]; 64],
+    pub ghost long: { (c : ℕ) → c < code.n → length (slice_index_or table c []) ≡ 16 },
+    pub ghost entry: { (c k : ℕ) → c < code.n → at (slice_index_or table c []) k ≡ column (the_code code) k c },
+}
+
+// The column of one cell.
+fn column_of(code: &Code, cell: usize) -> [u8; 16]
+    requires { cell < code.now.n }
+    ensures { (length result ≡ 16) × ((k : ℕ) → at result k ≡ column (the_code code.now) k cell) }
+{
+    let mut column = [0u8; 16];
+    for k in 0..code.r {
+        column[k] = code.column(k, cell) as u8;
+    }
+    column
+}
+
+impl<'a> Columns<'a> {
+    pub fn of(code: &Code<'a>) -> Columns<'a>
+        ensures { result.code ≡ code.now }
+    {
+        let mut table = [[0u8; 16]; 64];
+        for cell in 0..code.n {
+            table[cell] = column_of(code, cell);
+        }
+        Columns { code: *code, table }
+    }
+
+    // The syndrome s once the cell has risen by one.
+    pub fn raise(&self, cell: usize, s: &[u8; 16]) -> [u8; 16]
+        requires { (cell < self.now.code.n) × (length s.now ≡ 16) × EachCell (λ v. v < self.now.code.m) s.now }
+        ensures { (result ≡ raised (the_code self.now.code) cell s.now) × EachCell (λ v. v < self.now.code.m) result × (length result ≡ 16) }
+    {
+        let modulus = self.code.m as u8;
+        let mut x = *s;
+        for k in 0..16 {
+            x[k] = byte_helpers::add_modulo(modulus, s[k], self.table[cell][k]);
+        }
+        x
+    }
+}

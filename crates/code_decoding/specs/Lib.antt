@@ -1,0 +1,2 @@
+-- what decoding gives
+pub mod Counts

@@ -1,0 +1,46 @@
+-- One plane more.
+use Rattle.std.proofs.Common.{◌≡◌, List, [], ◌∷◌, ◌++◌, map, ℕ, ◌+◌, ◌*◌, ◌^◌, ◌-◌, ◌<◌, ◌≤◌, length, set, take, arith}
+use native.Mathlib.Nat.{pow-suc, mul-le-mul, pow-le-pow_right}
+use native.Mathlib.Numerals.{add-one}
+use Rattle.std.proofs.lemmas.Grind.{common_steps}
+use Rattle.std.proofs.lemmas.List.{take_more_set}
+use Rattle.definitions.specs.Codes.{data_cells}
+use Rattle.definitions.specs.Codes as codes
+use Rattle.definitions.specs.Stacks.{product}
+use Rattle.definitions.specs.StackMessages.{message_length}
+use Rattle.opening.specs.Viewed.{code}
+use Rattle.stack_opening.specs.declared.plane.Plane.{Plane}
+use Rattle.stack_opening.specs.Planes.{codes_to, place_values}
+
+product_snoc : (ps : List codes.Code) (p : codes.Code) → product (ps ++ p ∷ []) ≡ product ps * p.M
+product_snoc [] p = grind arith
+product_snoc (x ∷ ps) p = grind (arith, product_snoc ps p)
+
+length_snoc : (ps : List codes.Code) (p : codes.Code) → message_length (ps ++ p ∷ []) ≡ message_length ps + data_cells p
+length_snoc [] p = omega arith
+length_snoc (x ∷ ps) p = omega (arith, length_snoc ps p)
+
+values_snoc : (w : ℕ) (ps : List codes.Code) (p : codes.Code) → place_values w (ps ++ p ∷ []) ≡ place_values w ps ++ w * product ps ∷ []
+values_snoc w [] p = grind arith
+values_snoc w (x ∷ ps) p = grind (arith, values_snoc (w * x.M) ps p)
+
+module _ (planes : List Plane) (j : ℕ) (p : Plane) (fits : j < length planes) where
+  pub codes_more : codes_to (j + 1) (set planes j p) ≡ codes_to j planes ++ code p.code ∷ []
+  codes_more = grind (arith, common_steps)
+
+  pub levels_more : (q : ℕ) → q ≡ product (codes_to j planes) → q * p.code.m ≡ product (codes_to (j + 1) (set planes j p))
+  levels_more q e = rw (codes_more, product_snoc (codes_to j planes) (code p.code), ← e)
+
+  pub message_more : (s n : ℕ) → p.code.n ≡ n → s ≡ message_length (codes_to j planes) → s + (n - p.code.r) ≡ message_length (codes_to (j + 1) (set planes j p))
+  message_more s n l e = rw (codes_more, length_snoc (codes_to j planes) (code p.code), ← e, ← l)
+
+  pub values_more : p.w ≡ product (codes_to j planes) → map (λ p. p.w) (take j planes) ≡ place_values 1 (codes_to j planes)
+      → map (λ p. p.w) (take (j + 1) (set planes j p)) ≡ place_values 1 (codes_to (j + 1) (set planes j p))
+  values_more e f = rw (codes_more, values_snoc 1 (codes_to j planes) (code p.code), ← f, ← e, take_more_set planes j p fits) (grind (arith, common_steps))
+
+-- the product of j + 1 numbers of at most 64
+pub levels_grow : (j q c : ℕ) → q ≤ 64 ^ j → c ≤ 64 → q * c ≤ 64 ^ (j + 1)
+levels_grow j q c h k = rw (add-one, pow-suc) (mul-le-mul h k)
+
+pub levels_fit : (j : ℕ) → j ≤ 6 → 64 ^ j ≤ 64 ^ 6
+levels_fit j h = pow-le-pow_right (omega arith) h

@@ -1,0 +1,14 @@
+-- An opened stack as the definitions have it.
+use Rattle.std.specs.Prelude.{Result}
+use Rattle.definitions.specs.Answers.{Answer}
+use Rattle.definitions.specs.Stacks as stacks
+use Rattle.answers.specs.declared.Refusal.{Refusal}
+use Rattle.answers.specs.Answering.{answer_with}
+use Rattle.stack_opening.specs.declared.Stack.{Stack}
+use Rattle.stack_opening.specs.Planes.{codes_to}
+
+abbrev pub stack : Stack → stacks.Stack
+stack s = record { n = s.n; planes = codes_to s.m s.planes }
+
+abbrev pub opened_as : Result Stack Refusal → Answer stacks.Stack
+opened_as = answer_with stack
