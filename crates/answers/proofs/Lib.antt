@@ -1,0 +1,2 @@
+-- what follows a refusal, and what it leaves
+pub mod Refusals
