@@ -1,9 +1,8 @@
-// The reader of document 01's bytes: it stays on the lent bytes and remembers its next bit.
+// The reader of packed bytes: it stays on the lent bytes and remembers its next bit.
 #![tactic(auto)]
 
-ghost use Rattle.std.specs.Prelude.{◌≡◌, ℕ, ◌+◌, ◌<◌, ◌≤◌, ◌^◌};
+ghost use Rattle.std.specs.Prelude.{◌≡◌, ◌+◌, ◌<◌, ◌≤◌, ◌^◌, length};
 ghost use Rattle.definitions.specs.Packing.{symbol_at};
-ghost use Rattle.bit_reader.specs.Taking.{width_in, Narrow, Begun, put, Taken};
 
 // How many bits the symbol of each of n cells has: `wide` before the check cells, before which there are `leading` cells,
 // and `narrow` at them.
@@ -13,54 +12,34 @@ pub struct Layout {
     pub leading: usize,
     pub wide: usize,
     pub narrow: usize,
+    pub ghost small: { (n ≤ 64) × (wide ≤ 8) × (narrow ≤ 8) },
 }
 
-// The symbols of the first `cells` cells, and how many bits the next symbol has.
-#[derive(Clone, Copy)]
-pub struct Taking {
-    pub layout: Layout,
-    pub cells: usize,
-    pub width: usize,
-    pub symbols: [u8; 64],
-}
+impl Layout {
+    ghost use Rattle.bit_reader.specs.Taking.{width_in, taken};
 
-// How many bits the symbol of cell i + 1 has.
-pub fn width_at(layout: Layout, i: usize) -> usize
-    ensures { result ≡ width_in layout i }
-{
-    if i < layout.leading {
-        layout.wide
-    } else {
-        layout.narrow
+    // How many bits the symbol of cell i + 1 has.
+    pub fn width_at(self, i: usize) -> usize
+        ensures { result ≡ width_in self i }
+    {
+        if i < self.leading {
+            self.wide
+        } else {
+            self.narrow
+        }
     }
-}
 
-// No symbol is taken yet.
-pub fn begin(layout: Layout) -> Taking
-    ensures { Begun layout result }
-{
-    Taking {
-        layout,
-        cells: 0,
-        width: width_at(layout, 0),
-        symbols: [0u8; 64],
-    }
-}
-
-// One more symbol.
-pub fn put(t: Taking, v: u8) -> Taking
-    requires { t.cells < 64 }
-    ensures { result ≡ put t v }
-{
-    let layout = t.layout;
-    let i = t.cells;
-    let mut symbols = t.symbols;
-    symbols[i] = v;
-    Taking {
-        layout,
-        cells: i + 1,
-        width: width_at(layout, i + 1),
-        symbols,
+    // Take the symbols of all cells from bytes.
+    pub fn take_symbols(self, bytes: &[u8], out: &mut [u8])
+        requires { length out.old ≡ self.n }
+        ensures { out.new ≡ taken self bytes.now }
+    {
+        let mut reader = BitReader::new(bytes);
+        for (i, symbol) in out.iter_mut().enumerate() {
+            let width = self.width_at(i);
+            *symbol = reader.take(width);
+            reader.advance(width);
+        }
     }
 }
 
@@ -71,42 +50,26 @@ pub struct BitReader<'a> {
     bit: usize,
 }
 
-pub fn new<'a>(src: &'a [u8]) -> BitReader<'a>
-    ensures { (result.src ≡ src.entry) × (result.bit ≡ 0) }
-{
-    BitReader { src, bit: 0 }
-}
-
-// The symbol of `width` bits at the next bit.
-pub fn take<'a>(r: BitReader<'a>, width: usize) -> u8
-    requires { width ≤ 8 }
-    ensures { result ≡ symbol_at r.entry.src.now r.entry.bit width }
-{
-    bits::symbol_at(r.src, r.bit, width)
-}
-
-// The reader that many bits on.
-pub fn advance<'a>(r: BitReader<'a>, width: usize) -> BitReader<'a>
-    requires { r.bit + width < 2 ^ 64 }
-    ensures { (result.src ≡ r.entry.src) × (result.bit ≡ r.entry.bit + width) }
-{
-    BitReader {
-        src: r.src,
-        bit: r.bit + width,
+impl<'a> BitReader<'a> {
+    pub fn new(src: &'a [u8]) -> BitReader<'a>
+        ensures { (result.src ≡ src.entry) × (result.bit ≡ 0) }
+    {
+        BitReader { src, bit: 0 }
     }
-}
 
-// All symbols, in cell order. Plain parameters: whoever calls it needs to know nothing of a reader.
-pub fn take_symbols(src: &[u8], layout: Layout) -> Taking
-    requires { Narrow layout }
-    ensures { Taken layout src.now result }
-{
-    let mut r = new(src);
-    let mut t = begin(layout);
-    while t.cells < t.layout.n {
-        let w = t.width;
-        t = put(t, take(r, w));
-        r = advance(r, w);
+    // The symbol of `width` bits at the next bit.
+    pub fn take(&self, width: usize) -> u8
+        requires { width ≤ 8 }
+        ensures { result ≡ symbol_at self.now.src.now self.now.bit width }
+    {
+        bits::symbol_at(self.src, self.bit, width)
     }
-    t
+
+    // That many bits on.
+    pub fn advance(&mut self, width: usize)
+        requires { self.old.bit + width < 2 ^ 64 }
+        ensures { (self.new.src ≡ self.old.src) × (self.new.bit ≡ self.old.bit + width) }
+    {
+        self.bit += width;
+    }
 }

@@ -18,7 +18,7 @@ pub fn raised(v: u8, k: usize) -> usize
     requires { k ≤ 8 }
     ensures { (result ≡ v * 2 ^ k) × (result ≤ 65280) }
 {
-    byte_helpers::wide(v) * power(k)
+    usize::from(v) * power(k)
 }
 
 // How many powers of two are below q.
@@ -26,11 +26,10 @@ pub fn log2(q: usize) -> usize
     requires { q ≤ 256 }
     ensures { (result ≡ log2 q) × (result ≤ 8) }
 {
-    let mut k = 0;
-    while power(k) < q {
-        k += 1;
+    if q <= 1 {
+        return 0;
     }
-    k
+    (q - 1).ilog2() as usize + 1
 }
 
 pub fn is_power_of_two(q: usize) -> bool
@@ -44,11 +43,7 @@ pub fn is_power_of_two(q: usize) -> bool
 fn byte_at(bytes: &[u8], j: usize) -> usize
     ensures { (result ≡ at bytes.now j) × (result ≤ 255) }
 {
-    if j < bytes.len() {
-        byte_helpers::wide(bytes[j])
-    } else {
-        0
-    }
+    usize::from(bytes.get(j).copied().unwrap_or(0))
 }
 
 // The number whose bits, lowest first, are `width` bits of the bytes from bit `bit` on. Two bytes have them all.
@@ -58,5 +53,5 @@ pub fn symbol_at(bytes: &[u8], bit: usize, width: usize) -> u8
 {
     let j = bit / 8;
     let both = byte_at(bytes, j + 1) * 256 + byte_at(bytes, j);
-    byte_helpers::byte(both / power(bit % 8) % power(width))
+    (both / power(bit % 8) % power(width)) as u8
 }

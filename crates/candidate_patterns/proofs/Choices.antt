@@ -1,5 +1,6 @@
 -- Choices of cells with magnitudes, as words.
-use mathlib.Core.Path.{◌≡◌, refl, sym, ap, ap₂, ◌∙◌}
+use mathlib.Core.Path.{◌≡◌, refl, sym, ap, ap₂, ◌∙◌, subst}
+use mathlib.Core.Logic.{◌⊎◌, inl, inr}
 use mathlib.Core.Bool.{Bool, true, false, cond}
 use mathlib.Core.List.{List, [], ◌∷◌, ◌++◌, map}
 use Prim.Native.Nat.{ℕ, zero, suc, ◌+◌, ◌-◌, ◌≤◌, ◌<◌}
@@ -8,11 +9,13 @@ use native.Mathlib.Numerals.{add-one}
 use native.Mathlib.Omega.{arith}
 use lib.Dec.{eqb}
 use lib.ListN.{length, length-map}
+use Rattle.std.proofs.Common.{get_or}
 use borrow.Author.Tests.{eq-eqb, ne_eqb, eqb-true}
 use Rattle.definitions.specs.Words.{at, up_from}
 use Rattle.word_laws.proofs.Cells.{at-past, at-up_from, length-up_from}
+use Rattle.candidate_patterns.specs.declared.Rise.{Rise}
 use Rattle.candidate_patterns.specs.declared.Risen.{Risen}
-use Rattle.candidate_patterns.specs.Candidates.{magnitude_of, or_else, magnitude_at, word_of, unrisen, added, Chosen}
+use Rattle.candidate_patterns.specs.Candidates.{magnitude_of, or_else, magnitude_in, magnitude_at, word_of, no_rise, unrisen, rise_at, added, Chosen}
 
 pub of_here : (c g i : ℕ) → c ≡ i → magnitude_of c g i ≡ g
 of_here c g i e = simp (eq-eqb c i e)
@@ -38,51 +41,62 @@ or_none : (a : ℕ) → or_else a 0 ≡ a
 or_none zero = refl
 or_none (suc a) = refl
 
--- a choice more, of a cell that is not chosen
-module _ (k : Risen) (c g : ℕ) (free : k.m3 ≡ 0) (here : magnitude_at k c ≡ 0) where
-  pub added-at : (i : ℕ) → magnitude_at (added k c g) i ≡ magnitude_at k i + magnitude_of c g i
+-- three rises, one after the other
+magnitude_of_three :
+    (rs : List Rise) → length rs ≡ 3 → (i : ℕ)
+    → magnitude_in rs i ≡ or_else (magnitude_of (get_or rs 0 no_rise).cell (get_or rs 0 no_rise).magnitude i)
+    (or_else (magnitude_of (get_or rs 1 no_rise).cell (get_or rs 1 no_rise).magnitude i)
+    (or_else (magnitude_of (get_or rs 2 no_rise).cell (get_or rs 2 no_rise).magnitude i) 0))
+magnitude_of_three [] e i = absurd (omega arith)
+magnitude_of_three (a ∷ []) e i = absurd (omega arith)
+magnitude_of_three (a ∷ b ∷ []) e i = absurd (omega arith)
+magnitude_of_three (a ∷ b ∷ c ∷ []) e i = refl
+magnitude_of_three (a ∷ b ∷ c ∷ d ∷ rs) e i = absurd (omega arith)
+
+-- with a choice left, the third is not made
+module _ (k : Risen) (three : length k.rises ≡ 3) (free : (rise_at k 2).magnitude ≡ 0) where
+  abbrev two : ℕ → ℕ
+  two i = or_else (magnitude_of (rise_at k 0).cell (rise_at k 0).magnitude i)
+      (or_else (magnitude_of (rise_at k 1).cell (rise_at k 1).magnitude i) 0)
+
+  of_two : (i : ℕ) → magnitude_at k i ≡ two i
   unfolding magnitude_at
-  added-at i = by (eqb c i) refl
+  of_two i =
+      magnitude_of_three k.rises three i
+      ∙ ap (λ (x : ℕ). or_else (magnitude_of (rise_at k 0).cell (rise_at k 0).magnitude i)
+      (or_else (magnitude_of (rise_at k 1).cell (rise_at k 1).magnitude i) (or_else x 0)))
+      (ap (λ (m : ℕ). magnitude_of (rise_at k 2).cell m i) free ∙ of_none (rise_at k 2).cell i)
+
+  -- a choice more, of a cell that is not chosen
+  pub added-at : (c g : ℕ) → magnitude_at k c ≡ 0 → (i : ℕ) → magnitude_at (added k c g) i ≡ magnitude_at k i + magnitude_of c g i
+  unfolding magnitude_at
+  added-at c g here i = by (eqb c i) refl
     where
-      a : ℕ
-      a = magnitude_of k.c1 k.m1 i
-
-      b : ℕ
-      b = magnitude_of k.c2 k.m2 i
-
-      third : magnitude_of k.c3 k.m3 i ≡ 0
-      third = ap (λ (m : ℕ). magnitude_of k.c3 m i) free ∙ of_none k.c3 i
-
-      two : magnitude_at k i ≡ or_else a b
-      two = ap (λ (x : ℕ). or_else a (or_else b x)) third ∙ ap (or_else a) (or_none b)
-
-      by : (h : Bool) → eqb c i ≡ h → or_else (cond h g 0) (or_else a b) ≡ magnitude_at k i + cond h g 0
+      by : (h : Bool) → eqb c i ≡ h → or_else (cond h g 0) (two i) ≡ magnitude_at k i + cond h g 0
       by true e =
           let z : magnitude_at k i ≡ 0 = ap (magnitude_at k) (sym (eqb-true c i e)) ∙ here in
-          ap (or_else g) (sym two ∙ z) ∙ or_none g ∙ sym (zero-add g) ∙ ap (λ (x : ℕ). x + g) (sym z)
-      by false e = sym two ∙ sym (add-zero (magnitude_at k i))
+          ap (or_else g) (sym (of_two i) ∙ z) ∙ or_none g ∙ sym (zero-add g) ∙ ap (λ (x : ℕ). x + g) (sym z)
+      by false e = sym (of_two i) ∙ sym (add-zero (magnitude_at k i))
 
-pub added_none : (k : Risen) (c : ℕ) → k.m3 ≡ 0 → (i : ℕ) → magnitude_at (added k c 0) i ≡ magnitude_at k i
-unfolding magnitude_at
-added_none k c free i =
-    ap (λ (x : ℕ). or_else x (or_else a b)) (of_none c i) ∙ ap (or_else a) (sym (or_none b)) ∙ ap (λ (x : ℕ). or_else a (or_else b x)) (sym third)
-  where
-    a : ℕ
-    a = magnitude_of k.c1 k.m1 i
-
-    b : ℕ
-    b = magnitude_of k.c2 k.m2 i
-
-    third : magnitude_of k.c3 k.m3 i ≡ 0
-    third = ap (λ (m : ℕ). magnitude_of k.c3 m i) free ∙ of_none k.c3 i
+  pub added_none : (c i : ℕ) → magnitude_at (added k c 0) i ≡ magnitude_at k i
+  unfolding magnitude_at
+  added_none c i = ap (λ (x : ℕ). or_else x (two i)) (of_none c i) ∙ sym (of_two i)
 
 pub unrisen-at : (i : ℕ) → magnitude_at unrisen i ≡ 0
 unfolding magnitude_at
 unrisen-at i = simp (of_none 0 i)
 
-pub unchosen : (k : Risen) (i : ℕ) → eqb k.c1 i ≡ false → eqb k.c2 i ≡ false → eqb k.c3 i ≡ false → magnitude_at k i ≡ 0
-unfolding magnitude_at
-unchosen k i e1 e2 e3 = simp (e1, e2, e3)
+-- a cell has the magnitude 0, or is chosen: what holds of all chosen cells holds of it
+pub chosen_or_none :
+    (P : ℕ → Type 0) (rs : List Rise) → ((j : ℕ) → j < length rs → P (get_or rs j no_rise).cell) → (i : ℕ) → (magnitude_in rs i ≡ 0) ⊎ P i
+chosen_or_none P [] h i = inl refl
+chosen_or_none P (r ∷ rs) h i = step (eqb r.cell i) refl (chosen_or_none P rs (λ j l. h (suc j) (omega arith)) i)
+  where
+    step :
+        (b : Bool) → eqb r.cell i ≡ b → (magnitude_in rs i ≡ 0) ⊎ P i
+        → (or_else (cond b r.magnitude 0) (magnitude_in rs i) ≡ 0) ⊎ P i
+    step true e s = inr (subst P (eqb-true r.cell i e) (h 0 (omega arith)))
+    step false e s = s
 
 -- words
 pub length-word : (n : ℕ) (k : Risen) → length (word_of n k) ≡ n
@@ -122,38 +136,35 @@ word_same n k k' h = map-up_from (magnitude_at k) (magnitude_at k') 0 n
     (λ i b. ap (magnitude_at k) (zero-add i) ∙ h i b ∙ ap (magnitude_at k') (sym (zero-add i)))
 
 -- the choices so far, as the search goes on
+none_free : (j : ℕ) → (rise_at unrisen j).magnitude ≡ 0
+none_free zero = refl
+none_free (suc zero) = refl
+none_free (suc (suc zero)) = refl
+none_free (suc (suc (suc j))) = refl
+
 pub chosen_none : (left : ℕ) → left ≤ 3 → Chosen unrisen left 0
-chosen_none left h = record { few = h; free3 = λ _. refl; free2 = λ _. refl; free1 = λ _. refl; before = λ i _. unrisen-at i }
+chosen_none left h = record { few = h; three = refl; free = λ j _. none_free j; before = λ i _. unrisen-at i }
+
+pub chosen_later : (k : Risen) (left cell c : ℕ) → cell ≤ c → Chosen k left cell → Chosen k left c
+chosen_later k left cell c h s = record { few = s.few; three = s.three; free = s.free; before = λ i g. s.before i (omega arith) }
 
 pub chosen-next : (k : Risen) (left cell : ℕ) → Chosen k left cell → Chosen k left (cell + 1)
-chosen-next k left cell s =
-    record { few = s.few; free3 = s.free3; free2 = s.free2; free1 = s.free1; before = λ i h. s.before i (omega arith) }
+chosen-next k left cell = chosen_later k left cell (cell + 1) (omega arith)
+
+pub chosen_plus :
+    (k : Risen) (left cell g : ℕ) → Chosen k left cell → 1 ≤ left → (i : ℕ) → magnitude_at (added k cell g) i ≡ magnitude_at k i + magnitude_of cell g i
+chosen_plus k left cell g s one = added-at k s.three (s.free 2 (omega arith)) cell g (s.before cell (omega arith))
 
 pub chosen-added : (k : Risen) (left cell g : ℕ) → Chosen k left cell → 1 ≤ left → Chosen (added k cell g) (left - 1) (cell + 1)
 chosen-added k left cell g s one = record {
   few = (let h = s.few in omega arith);
-  free3 = λ h. s.free2 (omega arith);
-  free2 = λ h. s.free1 (omega arith);
-  free1 = λ h. absurd (let b = s.few in omega arith);
-  before = λ i h. added-at k cell g (s.free3 (omega arith)) (s.before cell (omega arith)) i
-      ∙ ap₂ ◌+◌ (s.before i (omega arith)) (of_other cell g i (λ e. omega arith)) ∙ refl;
+  three = refl;
+  free = free;
+  before = λ i h. chosen_plus k left cell g s one i ∙ ap₂ ◌+◌ (s.before i (omega arith)) (of_other cell g i (λ e. omega arith)) ∙ refl;
 }
-
--- the magnitude of a cell, choice by choice
-or_left : (a b : ℕ) → (a ≡ 0 → ⊥) → a ≡ or_else a b
-or_left zero b h = absurd (h refl)
-or_left (suc a) b h = refl
-
-module _ (k : Risen) (i a : ℕ) (ea : a ≡ magnitude_of k.c1 k.m1 i) where
-  pub by_first : (a ≡ 0 → ⊥) → a ≡ magnitude_at k i
-  unfolding magnitude_at
-  by_first h = rw (← ea) (or_left a _ h)
-
-  module _ (za : a ≡ 0) (b : ℕ) (eb : b ≡ magnitude_of k.c2 k.m2 i) where
-    pub by_second : (b ≡ 0 → ⊥) → b ≡ magnitude_at k i
-    unfolding magnitude_at
-    by_second h = rw (← ea, za, ← eb) (or_left b _ h)
-
-    pub by_third : b ≡ 0 → (g : ℕ) → g ≡ magnitude_of k.c3 k.m3 i → g ≡ magnitude_at k i
-    unfolding magnitude_at
-    by_third zb g eg = rw (← ea, za, ← eb, zb) eg
+  where
+    free : (j : ℕ) → 3 ≤ j + (left - 1) → (rise_at (added k cell g) j).magnitude ≡ 0
+    free zero h = absurd (let b = s.few in omega arith)
+    free (suc zero) h = s.free 0 (omega arith)
+    free (suc (suc zero)) h = s.free 1 (omega arith)
+    free (suc (suc (suc j))) h = refl

@@ -1,5 +1,6 @@
 -- What the tests of a pattern show, cell by cell and entry by entry.
 use mathlib.Core.Path.{◌≡◌, refl, sym, ap, ap₂, ◌∙◌, subst}
+use mathlib.Core.Logic.{◌⊎◌, inl, inr}
 use mathlib.Core.Bool.{Bool, true, false, ◌&&◌}
 use mathlib.Core.List.{List, [], ◌∷◌, map}
 use Prim.Native.Nat.{ℕ, zero, suc, ◌+◌, ◌-◌, ◌≤◌, ◌<◌, ◌%◌}
@@ -7,8 +8,9 @@ use native.Mathlib.Numerals.{add-one}
 use native.Mathlib.Decide.{dec_lt}
 use native.Mathlib.Omega.{arith}
 use lib.Dec.{T, eqb, ltb}
-use lib.ListN.{length, drop, length-drop, drop_of_length-le}
-use lib.Seq.{get_or-drop, drop-cons}
+use lib.ListN.{length, replicate, drop, length-drop}
+use lib.Pointwise.{pointwise}
+use lib.Seq.{get_or-drop}
 use borrow.Author.Tests.{ltb-true, ltb-false, le-ltb, eqb-true, eq-eqb, ne_eqb}
 use Rattle.definitions.specs.Words.{at, up_from, subtract, nowhere_above, all_below, all_zero, EachCell, EachPair}
 use Rattle.definitions.specs.Codes.{Code, data_cells}
@@ -18,8 +20,8 @@ use Rattle.definitions.proofs.Tests.{and_left, and_right, and_both, eq_test, sam
 use Rattle.word_laws.proofs.Cells.{at-past, at-map2, length-map2, each_at, at_each, up_from_bounds, up_from_mem, same_map, map-zero}
 use Rattle.word_laws.proofs.Remainders.{cancel}
 use Rattle.candidate_patterns.specs.declared.Risen.{Risen}
-use Rattle.candidate_patterns.specs.Candidates.{magnitude_at, word_of}
-use Rattle.candidate_patterns.proofs.Choices.{word_at, word-past, length-word, unchosen}
+use Rattle.candidate_patterns.specs.Candidates.{magnitude_at, word_of, rise_at}
+use Rattle.candidate_patterns.proofs.Choices.{word_at, word-past, length-word, chosen_or_none}
 use Rattle.code_theorems.proofs.Syndromes.{syndrome-below, syndrome-add}
 
 pub is_true : (b : Bool) → T b → b ≡ true
@@ -150,20 +152,14 @@ module _ (p : Code) (y : List ℕ) (k : Risen) (ly : length y ≡ p.n) where
 
   -- a pattern that is not above the word at the cells chosen is so nowhere
   pub chosen_under :
-      (b1 b2 b3 : Bool) → b1 ≡ is_above_at k.c1 → b1 ≡ false → b2 ≡ is_above_at k.c2 → b2 ≡ false → b3 ≡ is_above_at k.c3 → b3 ≡ false
-      → (i : ℕ) → i < p.n → magnitude_at k i ≤ at y i
-  chosen_under b1 b2 b3 e1 f1 e2 f2 e3 f3 i h = step (eqb k.c1 i) (eqb k.c2 i) (eqb k.c3 i) refl refl refl
+      ((j : ℕ) → j < length k.rises → is_above_at (rise_at k j).cell ≡ false) → (i : ℕ) → i < p.n → magnitude_at k i ≤ at y i
+  unfolding magnitude_at
+  chosen_under h i l = step (chosen_or_none (λ c. is_above_at c ≡ false) k.rises h i)
     where
-      here : (c : ℕ) → ltb (at y c) (at (word_of (length y) k) c) ≡ false → eqb c i ≡ true → magnitude_at k i ≤ at y i
-      here c u e = subst (λ (x : ℕ). x ≤ at y i) (at-word i h)
-          (ltb-false (at y i) (at (word_of p.n k) i)
-          (ap (λ (n : ℕ). ltb (at y i) (at (word_of n k) i)) (sym ly) ∙ ap is_above_at (sym (eqb-true c i e)) ∙ u))
-
-      step : (d1 d2 d3 : Bool) → eqb k.c1 i ≡ d1 → eqb k.c2 i ≡ d2 → eqb k.c3 i ≡ d3 → magnitude_at k i ≤ at y i
-      step true d2 d3 q1 q2 q3 = here k.c1 (sym e1 ∙ f1) q1
-      step false true d3 q1 q2 q3 = here k.c2 (sym e2 ∙ f2) q2
-      step false false true q1 q2 q3 = here k.c3 (sym e3 ∙ f3) q3
-      step false false false q1 q2 q3 = rw (unchosen k i q1 q2 q3) (omega arith)
+      step : (magnitude_at k i ≡ 0) ⊎ (is_above_at i ≡ false) → magnitude_at k i ≤ at y i
+      step (inl e) = omega (arith, e)
+      step (inr u) = subst (λ (x : ℕ). x ≤ at y i) (at-word i l)
+          (ltb-false (at y i) (at (word_of p.n k) i) (ap (λ (n : ℕ). ltb (at y i) (at (word_of n k) i)) (sym ly) ∙ u))
 
   pub ceiling_fails :
       (i v g u : ℕ) → i < p.n → v ≡ at y i → g ≡ magnitude_at k i → data_cells p ≤ i → u ≡ ceiling p → u ≤ v - g
@@ -195,19 +191,12 @@ module _ (y : List ℕ) (k : Risen) (i : ℕ) where
   pub above_at : i < length y → (v g : ℕ) → v ≡ at y i → g ≡ magnitude_at k i → ltb v g ≡ ltb (at y i) (at (word_of (length y) k) i)
   above_at h v g ev eg = ap₂ ltb ev (eg ∙ sym (word_at (length y) k i h))
 
--- entries that are all 0, one after the other
-module _ (s : List ℕ) (i : ℕ) (h : i < length s) where
-  zeros_split : drop i s ≡ at s i ∷ drop (i + 1) s
-  zeros_split = rw (add-one) (drop-cons s i 0 h)
-
-  pub zeros_hit : (at s i ≡ 0 → ⊥) → all_zero (drop i s) ≡ false
-  zeros_hit n = rw (zeros_split, ne_eqb (at s i) 0 n)
-
-  pub zeros_miss : at s i ≡ 0 → all_zero (drop i s) ≡ all_zero (drop (i + 1) s)
-  zeros_miss e = rw (zeros_split, eq-eqb (at s i) 0 e)
-
-pub zeros-end : (s : List ℕ) (i : ℕ) → length s ≤ i → all_zero (drop i s) ≡ true
-zeros-end s i h = rw (drop_of_length-le s h)
+-- entries that are all 0
+pub zeros-equal : (n : ℕ) (s : List ℕ) → length s ≡ n → pointwise eqb s (replicate n 0) ≡ all_zero s
+zeros-equal zero [] e = refl
+zeros-equal zero (x ∷ s) e = absurd (omega arith)
+zeros-equal (suc n) [] e = absurd (omega arith)
+zeros-equal (suc n) (x ∷ s) e = ap (λ (b : Bool). eqb x 0 && b) (zeros-equal n s (omega arith))
 
 pub zeros-each : (s : List ℕ) → T (all_zero s) → (i : ℕ) → at s i ≡ 0
 zeros-each [] h i = refl

@@ -23,7 +23,7 @@ use Rattle.candidate_patterns.specs.declared.Risen.{Risen}
 use Rattle.candidate_patterns.specs.declared.asked.Asked.{Asked}
 use Rattle.candidate_patterns.specs.Candidates.{magnitude_at, word_of, added, has_syndrome, test_of, test_for}
 use Rattle.candidate_patterns.specs.Candidates.{SyndromeInRange, Chosen, Remains}
-use Rattle.candidate_patterns.proofs.Choices.{of_none, added-at, length-word}
+use Rattle.candidate_patterns.proofs.Choices.{of_none, chosen_plus, length-word}
 use Rattle.candidate_patterns.proofs.Syndromes.{Raised, column_hit, column-only}
 use Rattle.candidate_patterns.proofs.Fits.{is_true, is_false, zeros-each, each-zeros}
 
@@ -108,7 +108,7 @@ module _ (a : Asked) (k : Risen) (rest : List ℕ) (left : Remains (viewed.code 
       (λ t. n (λ i. column-only code a.s k rest left c d (added k c d) h raised i (entry (added k c d) (is_true _ t) i))))
     where
       raised : Raised k c d (added k c d)
-      raised = added-at k c d (ch.free3 (omega arith)) (ch.before c (omega arith))
+      raised = chosen_plus k 1 c d ch (omega arith)
 
   -- nothing may remain
   module _ (b : Bool) (e : b ≡ all_zero rest) where

@@ -1,9 +1,10 @@
 -- One error pattern of a search: its risen cells as a word, what they leave of a syndrome, and the test of a pattern.
-use Rattle.std.specs.Prelude.{◌≡◌, Bool, true, false, cond, ◌&&◌, List, map, ℕ, zero, suc, ◌+◌, ◌%◌, ◌<◌, ◌≤◌, eqb, length}
+use Rattle.std.specs.Prelude.{◌≡◌, Bool, true, false, cond, ◌&&◌, List, [], ◌∷◌, map, ℕ, zero, suc, ◌+◌, ◌%◌, ◌<◌, ◌≤◌, eqb, length, get_or}
 use Rattle.definitions.specs.Words.{at, up_from, same_word, nowhere_above, subtract}
 use Rattle.definitions.specs.Codes.{Code}
 use Rattle.definitions.specs.Codewords.{syndrome_entry, syndrome, is_codeword}
 use Rattle.opening.specs.Viewed.{code}
+use Rattle.candidate_patterns.specs.declared.Rise.{Rise}
 use Rattle.candidate_patterns.specs.declared.Risen.{Risen}
 use Rattle.candidate_patterns.specs.declared.asked.Asked.{Asked}
 
@@ -15,22 +16,31 @@ abbrev pub or_else : ℕ → ℕ → ℕ
 or_else zero b = b
 or_else (suc a) b = suc a
 
--- the magnitude of cell i: a choice that is not made has the magnitude 0
+-- the magnitude of cell i, from the first rise that gives it one: a choice that is not made has the magnitude 0
+abbrev pub magnitude_in : List Rise → ℕ → ℕ
+magnitude_in [] i = 0
+magnitude_in (r ∷ rs) i = or_else (magnitude_of r.cell r.magnitude i) (magnitude_in rs i)
+
 unfoldable pub magnitude_at : Risen → ℕ → ℕ
-magnitude_at k i =
-    or_else (magnitude_of k.c1 k.m1 i) (or_else (magnitude_of k.c2 k.m2 i) (magnitude_of k.c3 k.m3 i))
+magnitude_at k i = magnitude_in k.rises i
 
 -- the choices as a word of n cells
 unfoldable pub word_of : ℕ → Risen → List ℕ
 word_of n k = map (magnitude_at k) (up_from 0 n)
 
+abbrev pub no_rise : Rise
+no_rise = record { cell = 0; magnitude = 0 }
+
 -- no choice made: the empty pattern
 abbrev pub unrisen : Risen
-unrisen = record { c1 = 0; m1 = 0; c2 = 0; m2 = 0; c3 = 0; m3 = 0 }
+unrisen = record { rises = no_rise ∷ no_rise ∷ no_rise ∷ [] }
+
+abbrev pub rise_at : Risen → ℕ → Rise
+rise_at k j = get_or k.rises j no_rise
 
 -- one choice more, before the others
 abbrev pub added : Risen → ℕ → ℕ → Risen
-added k c g = record { c1 = c; m1 = g; c2 = k.c1; m2 = k.m1; c3 = k.c2; m3 = k.m2 }
+added k c g = record { rises = record { cell = c; magnitude = g } ∷ rise_at k 0 ∷ rise_at k 1 ∷ [] }
 
 -- the pattern e has the syndrome s, which an array holds in its first r entries
 unfoldable pub has_syndrome : Code → List ℕ → List ℕ → Bool
@@ -53,9 +63,8 @@ pub record SyndromeInRange (p : Code) (s : List ℕ) : Type 0 where
 -- the choices so far are of cells before `cell`, and `left` more can be made
 pub record Chosen (k : Risen) (left cell : ℕ) : Type 0 where
   pub few : left ≤ 3
-  pub free3 : 0 < left → k.m3 ≡ 0
-  pub free2 : 1 < left → k.m2 ≡ 0
-  pub free1 : 2 < left → k.m1 ≡ 0
+  pub three : length k.rises ≡ 3
+  pub free : (j : ℕ) → 3 ≤ j + left → (rise_at k j).magnitude ≡ 0
   pub before : (i : ℕ) → cell ≤ i → magnitude_at k i ≡ 0
 
 -- what the choices k leave of the syndrome s

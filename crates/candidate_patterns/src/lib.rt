@@ -6,54 +6,43 @@ ghost use Rattle.definitions.specs.Words.{at, all_zero};
 ghost use Rattle.definitions.specs.Codewords.{ceiling};
 ghost use Rattle.definitions.specs.Decoding.{fits, same_syndrome};
 ghost use Rattle.opening.specs.Viewed.{code as the_code};
-ghost use Rattle.candidate_patterns.specs.Candidates.{magnitude_of, magnitude_at, word_of, Remains, test_for};
+ghost use Rattle.candidate_patterns.specs.Candidates.{magnitude_at, word_of, Remains, test_for};
 
 pub mod asked;
 
 use asked::Asked;
 
-// At most three risen cells, counted from 0, with their magnitudes; a magnitude of 0 is no choice.
+// A cell, counted from 0, and the magnitude by which it rises; a magnitude of 0 is no rise.
 #[derive(Clone, Copy)]
-pub struct Risen {
-    pub c1: usize,
-    pub m1: usize,
-    pub c2: usize,
-    pub m2: usize,
-    pub c3: usize,
-    pub m3: usize,
+pub struct Rise {
+    pub cell: usize,
+    pub magnitude: usize,
 }
 
-fn magnitude_of(c: usize, g: usize, i: usize) -> usize
-    ensures { result ≡ magnitude_of c g i }
-{
-    if c == i { g } else { 0 }
+// At most three risen cells, the last chosen first.
+#[derive(Clone, Copy)]
+pub struct Risen {
+    pub rises: [Rise; 3],
 }
 
 // The magnitude that a pattern gives cell i.
+#[tactic(auto, unfolding(crate::specs::Candidates::magnitude_at))]
 pub fn magnitude_at(k: Risen, i: usize) -> usize
     ensures { result ≡ magnitude_at k i }
 {
-    let a = magnitude_of(k.c1, k.m1, i);
-    if a != 0 {
-        return a;
+    for rise in &k.rises {
+        if rise.cell == i && rise.magnitude != 0 {
+            return rise.magnitude;
+        }
     }
-    let b = magnitude_of(k.c2, k.m2, i);
-    if b != 0 {
-        return b;
-    }
-    magnitude_of(k.c3, k.m3, i)
+    0
 }
 
 // Whether all entries are 0.
 fn is_zero(s: &[u8; 12]) -> bool
     ensures { result ≡ all_zero s.now }
 {
-    for i in 0..12 {
-        if s[i] != 0 {
-            return false;
-        }
-    }
-    true
+    *s == [0; 12]
 }
 
 // Whether the pattern is above the word at cell i.
@@ -89,14 +78,10 @@ fn leaves_codeword(a: &Asked, k: Risen) -> bool
     requires same { same_syndrome (the_code a.now.code) a.now.word.now (word_of a.now.code.n k) ≡ true }
     ensures { result ≡ fits (the_code a.now.code) a.now.word.now (word_of a.now.code.n k) }
 {
-    if is_above(a.word, k, k.c1) {
-        return false;
-    }
-    if is_above(a.word, k, k.c2) {
-        return false;
-    }
-    if is_above(a.word, k, k.c3) {
-        return false;
+    for rise in &k.rises {
+        if is_above(a.word, k, rise.cell) {
+            return false;
+        }
     }
     let high = syndrome::ceiling(a.code.q, a.code.m);
     if high == a.code.q {

@@ -1,24 +1,14 @@
 // The operations on codes.
-use crate::printing;
+use crate::printing::{Answer, Given};
 
-// Whether the name is one of these operations'.
-pub fn run(rt: &impl Print, name: &[u8], body: &[u8], input: &[u8], out: &mut [u8]) -> bool {
-    match name {
-        b"test" => printing::test(rt, code_operations::test(body)),
-        b"encode" => {
-            let a = code_operations::encode(body, input, out);
-            printing::write(rt, a, out);
-        }
-        b"decode" => {
-            let a = code_decoding::decode(body, input, out);
-            printing::read(rt, a, out);
-        }
-        b"recover" => {
-            let a = code_operations::recover(body, input, out);
-            printing::write(rt, a, out);
-        }
-        b"code_cells" => printing::size(rt, sizes::code_cells(body)),
-        _ => return false,
-    }
-    true
+// The answer, if the name is one of these operations'.
+pub fn run(name: &str, body: &[u8], input: &[u8], out: &mut [u8]) -> Option<Answer> {
+    Some(match name {
+        "test" => Answer::tested(codec::test(body)),
+        "encode" => Answer::written(codec::encode(body, input, out)),
+        "decode" => Answer::WithOutput(codec::decode(body, input, out).map(Given::Decoded)),
+        "recover" => Answer::written(codec::recover(body, input, out)),
+        "code_cells" => Answer::size(sizes::code_cells(body)),
+        _ => return None,
+    })
 }

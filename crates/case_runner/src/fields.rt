@@ -1,93 +1,42 @@
-// The parts of a line, and the numbers in them.
-ghost use Rattle.std.specs.Prelude.{◌≡◌, ◌≤◌, ◌<◌, length, take};
+// The parts of a case, and the numbers in them.
+use anyhow::Result;
 
-pub fn is_case(line: &[u8]) -> bool {
-    if line.len() == 0 {
-        return false;
+// An operation's word and its fields: a body, an input, and last the length of the output.
+#[derive(Clone, Copy)]
+pub struct Case<'a> {
+    pub name: &'a str,
+    pub body: &'a str,
+    pub input: &'a str,
+    output: &'a str,
+}
+
+impl<'a> Case<'a> {
+    // The last field is the output's length.
+    pub fn new(line: &'a str) -> Case<'a> {
+        let (name, fields) = line.split_once(' ').unwrap_or((line, ""));
+        let (body, others) = fields.split_once('/').unwrap_or((fields, ""));
+        let (input, output) = others.split_once('/').unwrap_or(("", others));
+        Case {
+            name,
+            body,
+            input,
+            output,
+        }
     }
-    line[0] != b'#'
-}
 
-// Where the first mark from `from` on stands; the length where there is none.
-pub fn find(s: &[u8], from: usize, mark: u8) -> usize
-    requires { from ≤ length s.now }
-    ensures { (from ≤ result) × (result ≤ length s.now) }
-{
-    match s[from..].iter().position(|b| *b == mark) {
-        Some(k) => from + k,
-        None => s.len(),
-    }
-}
-
-// What stands before the first mark; all where there is none.
-pub fn before(s: &[u8], mark: u8) -> &[u8] {
-    let e = find(s, 0, mark);
-    &s[0..e]
-}
-
-// What stands behind the first mark; nothing where there is none.
-pub fn behind(s: &[u8], mark: u8) -> &[u8] {
-    let e = find(s, 0, mark);
-    if e < s.len() { &s[e + 1..] } else { &s[e..] }
-}
-
-// A number with one more decimal digit, where 64 bits surely have room for it; other bytes leave it as it is.
-fn with_digit(r: u64, b: u8) -> u64 {
-    if 1844674407370955160 < r {
-        return r;
-    }
-    match b {
-        48..=57 => r * 10 + byte_helpers::long(b - 48),
-        0..=47 | 58..=255 => r,
+    pub fn output_length(&self) -> Result<usize> {
+        match self.output.trim() {
+            "" => Ok(0),
+            digits => Ok(digits.parse()?),
+        }
     }
 }
 
-// The number that a field's digits spell.
-pub fn number(s: &[u8]) -> u64 {
-    let mut r = 0;
-    for b in s {
-        r = with_digit(r, *b);
+// The bytes that a field spells.
+pub fn bytes<R: Alloc>(rt: &R, field: &str) -> Result<Vec<u8, R::A>> {
+    let mut all = Vec::new(rt.alloc());
+    for word in field.split_whitespace() {
+        all.push(word.parse()?)?;
     }
-    r
-}
-
-// The same modulo 65,536, as a length.
-pub fn value(s: &[u8]) -> usize
-    ensures { result < 65536 }
-{
-    (number(s) % 65536) as usize
-}
-
-fn byte_value(s: &[u8]) -> u8 {
-    (value(s) % 256) as u8
-}
-
-// Stores the word from at to end, where there is one and room for it.
-fn store_word(s: &[u8], at: usize, end: usize, out: &mut [u8], n: usize) -> usize
-    requires { (at ≤ end) × (end ≤ length s.now) × (n ≤ length out.old) }
-    ensures { result ≤ length out.old }
-{
-    if at == end {
-        return n;
-    }
-    if n == out.len() {
-        return n;
-    }
-    out[n] = byte_value(&s[at..end]);
-    n + 1
-}
-
-// The numbers between a field's spaces, into a buffer; how many there are.
-pub fn values(s: &[u8], out: &mut [u8]) -> usize
-    ensures within { result ≤ length out.new }
-    ensures prefix { result ≡ length (take result out.new) }
-{
-    let mut n = 0;
-    let mut at = 0;
-    while at < s.len() {
-        let end = find(s, at, b' ');
-        n = store_word(s, at, end, out, n);
-        at = end + 1;
-    }
-    n
+    Ok(all)
 }

@@ -1,34 +1,16 @@
 // The operations on images.
-use crate::printing;
+use crate::printing::{Answer, Given};
 
-// An entry's number stands where other operations have their input.
-fn read_row(rt: &impl Print, image: &[u8], entry: &[u8], out: &mut [u8]) {
-    if entry.len() == 1 {
-        let a = row_reading::read_row(image, byte_helpers::wide(entry[0]), out);
-        printing::row(rt, a, out);
-    } else {
-        printing::text(rt, b"one entry is wanted");
-    }
-}
-
-fn row_cells(rt: &impl Print, image: &[u8], entry: &[u8]) {
-    if entry.len() == 1 {
-        printing::size(
-            rt,
-            row_numbers::row_cells(image, byte_helpers::wide(entry[0])),
-        );
-    } else {
-        printing::text(rt, b"one entry is wanted");
-    }
-}
-
-// Whether the name is one of these operations'.
-pub fn run(rt: &impl Print, name: &[u8], image: &[u8], entry: &[u8], out: &mut [u8]) -> bool {
-    match name {
-        b"check_image" => printing::test(rt, image::check_image(image)),
-        b"read_row" => read_row(rt, image, entry, out),
-        b"row_cells" => row_cells(rt, image, entry),
-        _ => return false,
-    }
-    true
+// The answer, if the name is one of these operations'. An entry's number stands where other operations have their input.
+pub fn run(name: &str, image: &[u8], input: &[u8], out: &mut [u8]) -> Option<Answer> {
+    Some(match (name, input) {
+        ("check_image", _) => Answer::tested(image::check_image(image)),
+        ("read_row", [entry]) => {
+            Answer::WithOutput(row_reading::read_row(image, usize::from(*entry), out).map(
+                Given::Record,
+            ))
+        }
+        ("row_cells", [entry]) => Answer::size(row_numbers::row_cells(image, usize::from(*entry))),
+        _ => return None,
+    })
 }

@@ -4,8 +4,13 @@
 //
 // is the operation's word, what it takes (body, input), and last the length of the output, which holds 9s before the
 // call. The input of message_of_number is one number. The answer is followed by what the output holds after the call:
-// `count 2: 3 5 3 1 1`. A line that is empty or starts with # is printed as it is.
+// `count 2: 3 5 3 1 1`. A line that is empty or starts with # is printed as it is. A case that no operation takes, and
+// output that cannot be written, end the run.
 #![tactic(auto)]
+
+use crate::fields::Case;
+use crate::printing::{Answer, Buffer, Shown};
+use anyhow::{Context, Result};
 
 mod code_cases;
 mod fields;
@@ -16,80 +21,39 @@ mod packing_cases;
 mod printing;
 mod stack_cases;
 
-// The second field is handed over as bytes, and as one number.
-fn run_operation(
-    rt: &impl Print,
-    name: &[u8],
-    first: &[u8],
-    second: &[u8],
-    number: u64,
-    out: &mut [u8],
-) {
-    if code_cases::run(rt, name, first, second, out) {
-        return;
+// The answer of the operation that has the case's name; an output is stored in `out`.
+fn answer(rt: &impl Alloc, case: &Case, out: &mut [u8]) -> Result<Answer> {
+    let body = fields::bytes(rt, case.body)?;
+    if case.name == "message_of_number" {
+        let number = case.input.trim().parse()?;
+        return Ok(number_cases::message_of_number(&body, number, out));
     }
-    if stack_cases::run(rt, name, first, second, out) {
-        return;
-    }
-    if label_cases::run(rt, name, first, second, out) {
-        return;
-    }
-    if packing_cases::run(rt, name, first, second, out) {
-        return;
-    }
-    if number_cases::run(rt, name, first, number, second, out) {
-        return;
-    }
-    if image_cases::run(rt, name, first, second, out) {
-        return;
-    }
-    printing::text(rt, b"no operation of that name");
+    let input = fields::bytes(rt, case.input)?;
+    code_cases::run(case.name, &body, &input, out)
+        .or_else(|| stack_cases::run(case.name, &body, &input, out))
+        .or_else(|| label_cases::run(case.name, &body, &input, out))
+        .or_else(|| packing_cases::run(case.name, &body, &input, out))
+        .or_else(|| number_cases::run(case.name, &body, &input))
+        .or_else(|| image_cases::run(case.name, &body, &input, out))
+        .context("no operation takes this case")
 }
 
-// What an operation takes stands in two fields at most.
-fn run_fields(rt: &impl Print, name: &[u8], first: &[u8], second: &[u8], length: usize) {
-    let mut a = [0u8; 1024];
-    let mut b = [0u8; 512];
-    let mut out = [9u8; 512];
-    let n = fields::values(first, &mut a);
-    let m = fields::values(second, &mut b);
-    let number = fields::number(second);
-    if length <= 512 {
-        run_operation(rt, name, &a[..n], &b[..m], number, &mut out[0..length]);
-    } else {
-        printing::text(rt, b"output too long");
+fn run_case(rt: &(impl Print + Alloc), case: &Case) -> Result<()> {
+    let mut out = vec![in rt.alloc(); 9u8; case.output_length()?]?;
+    match answer(rt, case, &mut out)? {
+        Answer::Alone(given) => println!(rt; "{}", Shown(given))?,
+        Answer::WithOutput(given) => println!(rt; "{}{}", Shown(given), Buffer(&out))?,
     }
+    Ok(())
 }
 
-fn run_case(rt: &impl Print, line: &[u8]) {
-    let name = fields::before(line, b' ');
-    let rest = fields::behind(line, b' ');
-    let first = fields::before(rest, b'/');
-    let others = fields::behind(rest, b'/');
-    let second = fields::before(others, b'/');
-    let third = fields::behind(others, b'/');
-    // the last field is the output's length
-    if third.len() == 0 {
-        run_fields(rt, name, first, &[], fields::value(second));
-    } else {
-        run_fields(rt, name, first, second, fields::value(third));
+pub fn run(rt: &(impl Print + Alloc), text: &str) -> Result<()> {
+    for line in text.lines() {
+        if line.is_empty() || line.starts_with('#') {
+            rt.println(line)?;
+        } else {
+            run_case(rt, &Case::new(line)).context(format_args!("{line}"))?;
+        }
     }
-}
-
-fn run_line(rt: &impl Print, line: &[u8]) {
-    if fields::is_case(line) {
-        run_case(rt, line);
-    } else {
-        printing::text(rt, line);
-    }
-    printing::text(rt, b"\n");
-}
-
-pub fn run(rt: &impl Print, text: &[u8]) {
-    let mut at = 0;
-    while at < text.len() {
-        let end = fields::find(text, at, b'\n');
-        run_line(rt, &text[at..end]);
-        at = end + 1;
-    }
+    Ok(())
 }

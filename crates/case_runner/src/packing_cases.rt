@@ -1,19 +1,12 @@
 // The operations on bytes.
-use crate::printing;
+use crate::printing::Answer;
 
-// Whether the name is one of these operations'.
-pub fn run(rt: &impl Print, name: &[u8], body: &[u8], input: &[u8], out: &mut [u8]) -> bool {
-    match name {
-        b"pack" => {
-            let a = packing::pack(body, input, out);
-            printing::write(rt, a, out);
-        }
-        b"unpack" => {
-            let a = packing::unpack(body, input, out);
-            printing::write(rt, a, out);
-        }
-        b"packed_bytes" => printing::size(rt, packing::packed_bytes(body)),
-        _ => return false,
-    }
-    true
+// The answer, if the name is one of these operations'.
+pub fn run(name: &str, body: &[u8], input: &[u8], out: &mut [u8]) -> Option<Answer> {
+    Some(match name {
+        "pack" => Answer::written(packing::pack(body, input, out)),
+        "unpack" => Answer::written(packing::unpack(body, input, out)),
+        "packed_bytes" => Answer::size(packing::packed_bytes(body)),
+        _ => return None,
+    })
 }

@@ -1,107 +1,96 @@
 // Answers as text.
-use answers::{NumberAnswer, Outcome, ReadAnswer, Refusal, SizeAnswer, TestAnswer, WriteAnswer};
-use row_reading::RowAnswer;
+use answers::{Outcome, Refusal};
+use code_decoding::Decoded;
+use row_reading::Record;
+use std::fmt;
 
-pub fn text(rt: &impl Print, s: &[u8]) {
-    let _ = rt.write_all(s);
+// What an operation gives.
+#[derive(Clone, Copy)]
+pub enum Given {
+    Accepted,
+    Written,
+    Size(usize),
+    Number(u64),
+    Count(usize),
+    Decoded(Decoded),
+    Record(Record),
 }
 
-fn number(rt: &impl Print, n: usize) {
-    let _ = rt.print(n);
+// What an operation answers. Where it has an output, that is printed too.
+#[derive(Clone, Copy)]
+pub enum Answer {
+    Alone(Result<Given, Refusal>),
+    WithOutput(Result<Given, Refusal>),
 }
 
-// A word and a number.
-fn named(rt: &impl Print, name: &[u8], n: usize) {
-    text(rt, name);
-    number(rt, n);
+impl Answer {
+    pub fn tested(answer: Result<(), Refusal>) -> Answer {
+        Answer::Alone(answer.map(|()| Given::Accepted))
+    }
+
+    pub fn size(answer: Result<usize, Refusal>) -> Answer {
+        Answer::Alone(answer.map(Given::Size))
+    }
+
+    pub fn written(answer: Result<(), Refusal>) -> Answer {
+        Answer::WithOutput(answer.map(|()| Given::Written))
+    }
 }
 
-fn spaced(rt: &impl Print, n: usize) {
-    named(rt, b" ", n);
+impl fmt::Display for Given {
+    fn fmt<W: fmt::Write>(&self, f: &mut fmt::Formatter<W>) -> fmt::Result {
+        match *self {
+            Given::Accepted => write!(f, "accepted"),
+            Given::Written => write!(f, "written"),
+            Given::Size(size) => write!(f, "size {size}"),
+            Given::Number(number) => write!(f, "number {number}"),
+            Given::Count(count) => write!(f, "count {count}"),
+            Given::Decoded(Decoded { count, tried }) => write!(f, "count {count} tried {tried}"),
+            Given::Record(Record { entry, outcome }) => match outcome {
+                Outcome::Count(count) => write!(f, "entry {entry} count {count}"),
+                Outcome::Refused(why) => write!(f, "entry {entry} {}", Numbered(why)),
+            },
+        }
+    }
 }
 
-fn numbers(rt: &impl Print, s: &[u8]) {
-    for b in s {
-        spaced(rt, byte_helpers::wide(*b));
+// A refusal as its number, with a stack's plane.
+#[derive(Clone, Copy)]
+struct Numbered(Refusal);
+
+impl fmt::Display for Numbered {
+    fn fmt<W: fmt::Write>(&self, f: &mut fmt::Formatter<W>) -> fmt::Result {
+        write!(f, "refused {}", self.0.number())?;
+        match self.0.plane() {
+            Some(plane) => write!(f, " plane {plane}"),
+            None => Ok(()),
+        }
+    }
+}
+
+// What is given, or the refusal.
+#[derive(Clone, Copy)]
+pub struct Shown(pub Result<Given, Refusal>);
+
+impl fmt::Display for Shown {
+    fn fmt<W: fmt::Write>(&self, f: &mut fmt::Formatter<W>) -> fmt::Result {
+        match self.0 {
+            Ok(given) => write!(f, "{given}"),
+            Err(why) => write!(f, "{}", Numbered(why)),
+        }
     }
 }
 
 // What an output holds.
-fn buffer(rt: &impl Print, s: &[u8]) {
-    text(rt, b":");
-    numbers(rt, s);
-}
+#[derive(Clone, Copy)]
+pub struct Buffer<'a>(pub &'a [u8]);
 
-fn refusal(rt: &impl Print, x: Refusal) {
-    named(rt, b"refused ", answers::refusal_number(x));
-    if let Refusal::NoPatternInPlane(plane) = x {
-        named(rt, b" plane ", plane);
-    }
-}
-
-pub fn test(rt: &impl Print, a: TestAnswer) {
-    match a {
-        TestAnswer::Accepted => text(rt, b"accepted"),
-        TestAnswer::Refused(x) => refusal(rt, x),
-    }
-}
-
-pub fn size(rt: &impl Print, a: SizeAnswer) {
-    match a {
-        SizeAnswer::Size(n) => named(rt, b"size ", n),
-        SizeAnswer::Refused(x) => refusal(rt, x),
-    }
-}
-
-pub fn message_number(rt: &impl Print, a: NumberAnswer) {
-    match a {
-        NumberAnswer::Number(x) => {
-            text(rt, b"number ");
-            let _ = rt.print(x);
+impl fmt::Display for Buffer<'_> {
+    fn fmt<W: fmt::Write>(&self, f: &mut fmt::Formatter<W>) -> fmt::Result {
+        write!(f, ":")?;
+        for b in self.0 {
+            write!(f, " {b}")?;
         }
-        NumberAnswer::Refused(x) => refusal(rt, x),
-    }
-}
-
-pub fn write(rt: &impl Print, a: WriteAnswer, out: &[u8]) {
-    match a {
-        WriteAnswer::Written => text(rt, b"written"),
-        WriteAnswer::Refused(x) => refusal(rt, x),
-    }
-    buffer(rt, out);
-}
-
-pub fn read(rt: &impl Print, a: ReadAnswer, out: &[u8]) {
-    match a {
-        ReadAnswer::Count { count, tried } => {
-            named(rt, b"count ", count);
-            named(rt, b" tried ", tried);
-        }
-        ReadAnswer::Refused(x) => refusal(rt, x),
-    }
-    buffer(rt, out);
-}
-
-pub fn outcome(rt: &impl Print, a: Outcome, out: &[u8]) {
-    match a {
-        Outcome::Count(count) => named(rt, b"count ", count),
-        Outcome::Refused(x) => refusal(rt, x),
-    }
-    buffer(rt, out);
-}
-
-pub fn row(rt: &impl Print, a: RowAnswer, out: &[u8]) {
-    match a {
-        RowAnswer::Record(record) => {
-            let entry = record.entry;
-            let of_entry = record.outcome;
-            named(rt, b"entry ", entry);
-            text(rt, b" ");
-            outcome(rt, of_entry, out);
-        }
-        RowAnswer::Refused(x) => {
-            refusal(rt, x);
-            buffer(rt, out);
-        }
+        Ok(())
     }
 }

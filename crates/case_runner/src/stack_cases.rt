@@ -1,25 +1,17 @@
 // The operations on stacks.
-use crate::printing;
+use crate::printing::{Answer, Given};
 
-// Whether the name is one of these operations'.
-pub fn run(rt: &impl Print, name: &[u8], body: &[u8], input: &[u8], out: &mut [u8]) -> bool {
-    match name {
-        b"test_stack" => printing::test(rt, stack_operations::test_stack(body)),
-        b"encode_stack" => {
-            let a = stack_operations::encode_stack(body, input, out);
-            printing::write(rt, a, out);
-        }
-        b"decode_stack" => {
-            let a = stack_decoding::decode_stack(body, input, out);
-            printing::outcome(rt, a, out);
-        }
-        b"recover_stack" => {
-            let a = stack_operations::recover_stack(body, input, out);
-            printing::write(rt, a, out);
-        }
-        b"stack_cells" => printing::size(rt, sizes::stack_cells(body)),
-        b"stack_symbols" => printing::size(rt, sizes::stack_symbols(body)),
-        _ => return false,
-    }
-    true
+// The answer, if the name is one of these operations'.
+pub fn run(name: &str, body: &[u8], input: &[u8], out: &mut [u8]) -> Option<Answer> {
+    Some(match name {
+        "test_stack" => Answer::tested(codec::test_stack(body)),
+        "encode_stack" => Answer::written(codec::encode_stack(body, input, out)),
+        "decode_stack" => Answer::WithOutput(codec::decode_stack(body, input, out).map(
+            Given::Count,
+        )),
+        "recover_stack" => Answer::written(codec::recover_stack(body, input, out)),
+        "stack_cells" => Answer::size(sizes::stack_cells(body)),
+        "stack_symbols" => Answer::size(sizes::stack_symbols(body)),
+        _ => return None,
+    })
 }

@@ -48,17 +48,10 @@ pub fn decode(code: &Code, word: &[u8], out: &mut [u8]) -> Result<Decoded, Refus
         codeword: true,
         s: code.syndrome(word),
     };
-    match search::first_pattern(&asked) {
-        Some(
-            Pattern {
-                risen,
-                count,
-                tried,
-            },
-        ) => {
-            store_decoded(word, risen, out);
-            Ok(Decoded { count, tried })
-        }
-        None => Err(Refusal::NoCodewordInReach),
-    }
+    let Some(pattern) = search::first_pattern(&asked) else {
+        return Err(Refusal::NoCodewordInReach);
+    };
+    store_decoded(word, pattern.risen, out);
+    let Pattern { count, tried, .. } = pattern;
+    Ok(Decoded { count, tried })
 }

@@ -6,3 +6,5 @@ pub mod CodeClauses
 pub mod CodeLaws
 -- what the clauses of the operations on stacks suppose
 pub mod StackClauses
+-- the laws of stacks
+pub mod StackLaws

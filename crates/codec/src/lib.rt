@@ -13,8 +13,10 @@ ghost use Rattle.codec.specs.Shared.{testing_by, encoding_by, decoding_by, recov
 use answers::{Refusal, buffers_fit};
 
 mod codes;
+mod stacks;
 
 pub use codes::{decode, encode, recover, test};
+pub use stacks::{decode_stack, encode_stack, recover_stack, test_stack};
 
 // An opened code or stack.
 pub trait Codec {

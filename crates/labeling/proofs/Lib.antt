@@ -1,10 +1,10 @@
--- laws of the loops
+-- the state of a level is the first place at which the level stands
 pub mod Searching
 -- the loop that marks the level of each state: the states before s are passed
 pub mod Marking
 -- the loop that reverses bits, from the lowest: j bits of the state s are passed
 pub mod Reversing
--- the loops that store a new list cell by cell: the cells before i are stored
-pub mod Storing
+-- a made table is a permutation where the test of its length was passed
+pub mod Making
 -- from the check to the operations
 pub mod Applying

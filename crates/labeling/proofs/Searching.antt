@@ -1,20 +1,22 @@
--- The search for the state of a level.
-use mathlib.Core.Path.{◌≡◌}
-use mathlib.Core.List.{List}
-use Prim.Native.Nat.{ℕ, suc, ◌+◌, ◌≤◌, ◌<◌}
-use native.Mathlib.Numerals.{add-one}
-use lib.ListN.{length, drop, drop_of_length-le}
-use lib.Seq.{drop-cons}
-use borrow.Author.Tests.{eq-eqb, ne_eqb}
-use Rattle.definitions.specs.Words.{at}
+-- The state of a level is the first place at which the level stands.
+use Rattle.std.proofs.Common.{◌≡◌, refl, sym, ap, arith, ◌∙◌, List, ℕ, Bool, true, false, length}
+use Rattle.std.proofs.lemmas.Bool.{ltb-false}
+use Rattle.std.proofs.lemmas.List.Recursion.{is_position_or_len}
+use Rattle.std.proofs.lemmas.List.Sums.{prefix_len-le-length}
+use Rattle.std.specs.List.{position, position_or_len}
+use Rattle.std.specs.Prelude.{nat_eq, nat_lt, cond, not, Option, Some, None, unwrap_or}
 use Rattle.definitions.specs.Labels.{state_of}
 
-module _ (t : List ℕ) (l i : ℕ) where
-  pub hit : i < length t → at t i ≡ l → state_of (drop i t) l ≡ 0
-  hit h e = rw (drop-cons t i 0 h, eq-eqb (at t i) l e)
+module _ (t : List ℕ) (l : ℕ) where
+  first_place : state_of t l ≡ position_or_len (λ x. nat_eq x l) t
+  first_place = is_position_or_len (λ u. state_of u l) (λ x. nat_eq x l) refl (λ x xs. ap (cond (nat_eq x l) 0) (omega arith)) t
 
-  pub miss : i < length t → (at t i ≡ l → ⊥) → state_of (drop i t) l ≡ suc (state_of (drop (i + 1) t) l)
-  miss h e = rw (add-one, drop-cons t i 0 h, ne_eqb (at t i) l e)
+  pub state_found : (place : Option ℕ) → place ≡ position (λ x. nat_eq x l) t → unwrap_or place (length t) ≡ state_of t l
+  state_found place e = ap (λ (u : Option ℕ). unwrap_or u (length t)) e ∙ step (nat_lt first (length t)) refl ∙ sym first_place
+    where
+      first : ℕ
+      first = position_or_len (λ x. nat_eq x l) t
 
-  pub end : length t ≤ i → state_of (drop i t) l ≡ 0
-  end h = rw (drop_of_length-le t h)
+      step : (b : Bool) → nat_lt first (length t) ≡ b → unwrap_or (cond b (Some first) None) (length t) ≡ first
+      step true h = refl
+      step false h = let low = prefix_len-le-length (λ x. not (nat_eq x l)) t in omega (arith, ltb-false first (length t) h)

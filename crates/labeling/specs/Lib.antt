@@ -1,2 +1,2 @@
--- what the check before a table is applied means in document 01's numbers
-pub mod Labeling
+-- the labelings and their kinds' numbers
+pub mod Labelings

@@ -1,45 +1,70 @@
 // Labels: labelings of physical states with levels. A label table has the level of state s at entry s.
 #![tactic(auto)]
 
-ghost use Rattle.std.specs.Prelude.{◌≡◌, ◌&&◌, not, ◌↔◌, ◌<◌, ◌≤◌, T, eqb, length};
-ghost use Rattle.definitions.specs.Answers.{given};
+ghost use Rattle.std.specs.Prelude.{◌≡◌, ◌&&◌, ◌↔◌, ◌<◌, ◌≤◌, not, List, ℕ, T, eqb, nat_eq, length};
+ghost use Rattle.std.specs.List.{position};
+ghost use Rattle.definitions.specs.Answers.{given, refuse◌when◌else◌};
 ghost use Rattle.definitions.specs.CodeOperations.{between};
 ghost use Rattle.definitions.specs.PowersOfTwo.{is_power_of_two};
 ghost use Rattle.definitions.specs.Labels.{reversed, made_level, made_table, Permutation, is_permutation, level_of, state_of};
-ghost use Rattle.definitions.specs.LabelOperations.{make_labels, applicable, to_levels, to_states, GoesBack};
-ghost use Rattle.answers.specs.Answering.{written_as, leaves};
-ghost use Rattle.labeling.specs.Labeling.{checked_as};
+ghost use Rattle.definitions.specs.LabelOperations.{make_labels, applicable, applied, to_levels, to_states, GoesBack};
+ghost use Rattle.answers.specs.Answering.{answer_of, answer_with, leaves};
+ghost use Rattle.labeling.specs.Labelings.{labeling_number};
 
-use answers::{Refusal, WriteAnswer};
+use answers::Refusal;
 
 // A physical state and a level are two scales. Only a label table turns one into the other: level_of and state_of.
-#[derive(Drop)]
+#[derive(Clone, Copy, Debug, PartialEq, Eq)]
 struct State(u8);
 
-#[derive(Drop)]
+#[derive(Clone, Copy, Debug, PartialEq, Eq)]
 struct Level(u8);
 
 fn level_of(table: &[u8], state: State) -> Level
     requires { state.0 < length table.now }
     ensures { result.0 ≡ level_of table.now state.0 }
 {
-    let s = byte_helpers::wide(state.0);
-    Level(table[s])
+    Level(table[usize::from(state.0)])
 }
 
+// The place of a level in a table.
+fn place_of(table: &[u8], level: Level) -> Option<usize>
+    ensures { result ≡ position (λ x. nat_eq x level.0) table.now }
+{
+    table.iter().position(|l| *l == level.0)
+}
+
+#[tactic(auto, using(crate::proofs::Searching::state_found))]
 fn state_of(table: &[u8], level: Level) -> State
     requires { length table.now ≤ 64 }
     ensures { result.0 ≡ state_of table.now level.0 }
 {
-    let l = level.0;
-    let mut s = 0;
-    while s < table.len() {
-        if table[s] == l {
-            return State(byte_helpers::byte(s));
-        }
-        s += 1;
+    State(place_of(table, level).unwrap_or(table.len()) as u8)
+}
+
+// A scale, whose cells a label table turns into those of the other.
+trait Scale {
+    ghost turned: { List ℕ → ℕ → ℕ };
+
+    fn turned(table: &[u8], cell: u8) -> u8
+        requires { (cell < length table.now) × (length table.now ≤ 64) }
+        ensures { result ≡ turned table.now cell };
+}
+
+impl Scale for State {
+    ghost turned = { level_of };
+
+    fn turned(table: &[u8], cell: u8) -> u8 {
+        level_of(table, State(cell)).0
     }
-    State(byte_helpers::byte(s))
+}
+
+impl Scale for Level {
+    ghost turned = { state_of };
+
+    fn turned(table: &[u8], cell: u8) -> u8 {
+        state_of(table, Level(cell)).0
+    }
 }
 
 // Whether a table is a permutation. Each entry marks its level; a byte is below 256.
@@ -48,159 +73,155 @@ pub fn is_permutation(table: &[u8]) -> bool
     ensures test { result ≡ is_permutation table.now }
     ensures proposition { T result ↔ Permutation table.now }
 {
-    let mut marks = [0u8; 256];
-    let mut s = 0;
-    while s < table.len() {
-        let l = byte_helpers::wide(table[s]);
+    let mut marked = [false; 256];
+    for level in table {
+        let l = usize::from(*level);
         if table.len() <= l {
             return false;
         }
-        if marks[l] != 0 {
+        if marked[l] {
             return false;
         }
-        marks[l] = 1;
-        s += 1;
+        marked[l] = true;
     }
     true
 }
 
+// The labelings that are made.
+#[derive(Clone, Copy, Debug, PartialEq, Eq)]
+enum Labeling {
+    Straight,
+    Gray,
+    Reversed,
+}
+
+// From a kind's number, 1 to 3.
+impl TryFrom<usize> for Labeling {
+    type Error = Refusal;
+
+    ghost try_from_gives = { λ kind r. answer_with labeling_number r ≡ (refuse 2 when not (between 1 kind 3) else given kind) };
+
+    fn try_from(kind: usize) -> Result<Labeling, Refusal> {
+        match kind {
+            1 => Ok(Labeling::Straight),
+            2 => Ok(Labeling::Gray),
+            3 => Ok(Labeling::Reversed),
+            0 | 4.. => Err(Refusal::OutOfRange),
+        }
+    }
+}
+
 // The m lowest bits of a byte in opposite order.
+#[tactic(auto, using(crate::proofs::Reversing::room))]
 fn reversed(m: usize, s: u8) -> u8
     requires { m ≤ 8 }
     ensures { result ≡ reversed m s }
 {
     let mut rest = s;
     let mut back = 0;
-    let mut j = 0;
-    while j < m {
+    for _ in 0..m {
         back = back * 2 + rest % 2;
-        rest = rest / 2;
-        j += 1;
+        rest /= 2;
     }
     back
 }
 
-// Entry s of the table of q entries that is made of a kind.
-fn made_entry(kind: usize, q: usize, s: u8) -> u8
+// The level of state s of q.
+#[tactic(auto, unfolding(definitions::specs::Labels::gray))]
+fn made_level(labeling: Labeling, q: usize, s: u8) -> u8
     requires { q ≤ 64 }
-    ensures { result ≡ made_level kind q s }
+    ensures { result ≡ made_level (labeling_number labeling) q s }
 {
-    match kind {
-        1 => s,
-        2 => s ^ s / 2,
-        _ => reversed(bits::log2(q), s),
+    match labeling {
+        Labeling::Straight => s,
+        Labeling::Gray => s ^ s / 2,
+        Labeling::Reversed => reversed(bits::log2(q), s),
     }
 }
 
-fn store_labels(kind: usize, table: &mut [u8])
+fn store_labels(labeling: Labeling, table: &mut [u8])
     requires { length table.old ≤ 64 }
-    ensures { table.new ≡ made_table kind (length table.old) }
+    ensures { table.new ≡ made_table (labeling_number labeling) (length table.old) }
 {
     let q = table.len();
-    let mut s = 0;
-    while s < q {
-        table[s] = made_entry(kind, q, byte_helpers::byte(s));
-        s += 1;
+    for (s, level) in table.iter_mut().enumerate() {
+        *level = made_level(labeling, q, s as u8);
     }
 }
 
-fn within(low: usize, x: usize, high: usize) -> bool
-    ensures { result ≡ between low x high }
-{
-    if x < low {
-        return false;
-    }
-    x <= high
-}
-
-// Kinds 2 and 3 need a power of two.
-fn lacks_power(kind: usize, q: usize) -> bool
+// Whether a labeling asks for a power of two that q is not: all but the straight one do.
+fn lacks_power(labeling: Labeling, q: usize) -> bool
     requires { q ≤ 64 }
-    ensures { result ≡ (not (eqb kind 1) && not (is_power_of_two q)) }
+    ensures { result ≡ (not (eqb (labeling_number labeling) 1) && not (is_power_of_two q)) }
 {
-    if kind == 1 {
-        return false;
-    }
-    !bits::is_power_of_two(q)
+    labeling != Labeling::Straight && !bits::is_power_of_two(q)
 }
 
-// Document 01: make labels. The table's length is q.
-pub fn make_labels(kind: usize, table: &mut [u8]) -> WriteAnswer
-    ensures result { leaves (written_as result) table.new ≡ make_labels kind table.old }
-    ensures permutation { written_as result ≡ given tt → Permutation table.new }
+// Make labels. The table's length is q.
+#[tactic(auto, unfolding(definitions::specs::LabelOperations::make_labels))]
+pub fn make_labels(kind: usize, table: &mut [u8]) -> Result<(), Refusal>
+    ensures result { leaves (answer_of result) table.new ≡ make_labels kind table.old }
+    ensures permutation { answer_of result ≡ given tt → Permutation table.new }
 {
     let q = table.len();
-    if !within(2, q, 64) {
-        return WriteAnswer::Refused(Refusal::OutOfRange);
+    if !(2..=64).contains(&q) {
+        return Err(Refusal::OutOfRange);
     }
-    if !within(1, kind, 3) {
-        return WriteAnswer::Refused(Refusal::OutOfRange);
+    let labeling = Labeling::try_from(kind)?;
+    if lacks_power(labeling, q) {
+        return Err(Refusal::NotAPowerOfTwo);
     }
-    if lacks_power(kind, q) {
-        return WriteAnswer::Refused(Refusal::NotAPowerOfTwo);
-    }
-    store_labels(kind, table);
-    WriteAnswer::Written
+    store_labels(labeling, table);
+    Ok(())
 }
 
 // The check of a table, an input and the output buffer's length, before a table is applied, either way.
-#[derive(Drop)]
-enum Checked {
-    Passed,
-    Refused(Refusal),
-}
-
-fn check(table: &[u8], input: &[u8], room: usize) -> Checked
-    ensures { checked_as result ≡ applicable table.now input.now room }
+#[tactic(auto, unfolding(definitions::specs::LabelOperations::applicable))]
+fn check(table: &[u8], input: &[u8], room: usize) -> Result<(), Refusal>
+    ensures { answer_of result ≡ applicable table.now input.now room }
 {
     let q = table.len();
-    if !within(2, q, 64) {
-        return Checked::Refused(Refusal::OutOfRange);
+    if !(2..=64).contains(&q) {
+        return Err(Refusal::OutOfRange);
     }
     if !is_permutation(table) {
-        return Checked::Refused(Refusal::NotAPermutation);
+        return Err(Refusal::NotAPermutation);
     }
     if input.len() != room {
-        return Checked::Refused(Refusal::WrongBuffer);
+        return Err(Refusal::WrongBuffer);
     }
     if !byte_helpers::all_below(q, input) {
-        return Checked::Refused(Refusal::LevelTooLarge);
+        return Err(Refusal::LevelTooLarge);
     }
-    Checked::Passed
+    Ok(())
 }
 
-// Document 01: apply, from states to levels.
-pub fn to_levels(table: &[u8], states: &[u8], levels: &mut [u8]) -> WriteAnswer
-    ensures result { leaves (written_as result) levels.new ≡ to_levels table.now states.now levels.old }
-    ensures back { GoesBack (to_states table.now) states.now (written_as result) levels.new }
+// A table applied to cells of one scale.
+#[tactic(auto, using(crate::proofs::Applying::same_length, crate::proofs::Applying::table_small, crate::proofs::Applying::input_below))]
+fn apply<S: Scale>(table: &[u8], input: &[u8], out: &mut [u8]) -> Result<(), Refusal>
+    ensures { leaves (answer_of result) out.new ≡ applied (S.turned table.now) table.now input.now out.old }
 {
-    let checked = check(table, states, levels.len());
-    if let Checked::Refused(why) = checked {
-        return WriteAnswer::Refused(why);
+    check(table, input, out.len())?;
+    for (i, cell) in out.iter_mut().enumerate() {
+        *cell = S::turned(table, input[i]);
     }
-    let mut i = 0;
-    while i < states.len() {
-        let level = level_of(table, State(states[i]));
-        levels[i] = level.0;
-        i += 1;
-    }
-    WriteAnswer::Written
+    Ok(())
 }
 
-// Document 01: apply, from levels to states.
-pub fn to_states(table: &[u8], levels: &[u8], states: &mut [u8]) -> WriteAnswer
-    ensures result { leaves (written_as result) states.new ≡ to_states table.now levels.now states.old }
-    ensures back { GoesBack (to_levels table.now) levels.now (written_as result) states.new }
+// Apply a table, from states to levels.
+#[tactic(auto, using(crate::proofs::Applying::levels_back), unfolding(definitions::specs::LabelOperations::to_levels))]
+pub fn to_levels(table: &[u8], states: &[u8], levels: &mut [u8]) -> Result<(), Refusal>
+    ensures result { leaves (answer_of result) levels.new ≡ to_levels table.now states.now levels.old }
+    ensures back { GoesBack (to_states table.now) states.now (answer_of result) levels.new }
 {
-    let checked = check(table, levels, states.len());
-    if let Checked::Refused(why) = checked {
-        return WriteAnswer::Refused(why);
-    }
-    let mut i = 0;
-    while i < levels.len() {
-        let state = state_of(table, Level(levels[i]));
-        states[i] = state.0;
-        i += 1;
-    }
-    WriteAnswer::Written
+    apply::<State>(table, states, levels)
+}
+
+// Apply a table, from levels to states.
+#[tactic(auto, using(crate::proofs::Applying::states_back), unfolding(definitions::specs::LabelOperations::to_states))]
+pub fn to_states(table: &[u8], levels: &[u8], states: &mut [u8]) -> Result<(), Refusal>
+    ensures result { leaves (answer_of result) states.new ≡ to_states table.now levels.now states.old }
+    ensures back { GoesBack (to_levels table.now) levels.now (answer_of result) states.new }
+{
+    apply::<Level>(table, levels, states)
 }

@@ -11,7 +11,13 @@ use Rattle.code_theorems.proofs.Packing.{pack_demand, unpack_demand}
 use Rattle.answers.specs.Answering.{leaves}
 
 module _ (b x lent : List ℕ) {a : Answer (Unit {0})} {out : List ℕ} where
-  pub packed_as : leaves a out ≡ pack_code b x lent → (p : Code) → open_packable b ≡ given p → Message p x → length lent ≡ byte_count p → Packed b p x a out
+  pub packed_as :
+      leaves a out ≡ pack_code b x lent
+      → (p : Code)
+      → open_packable b ≡ given p
+      → Message p x
+      → length lent ≡ byte_count p
+      → Packed b p x a out
   packed_as e p opens m lo = subst (λ (r : Result (Unit {0})). Packed b p x r.answer r.out) (sym e) (pack_demand b p opens x lent m lo)
 
   -- x is lent: each of its entries is a byte

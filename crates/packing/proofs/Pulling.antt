@@ -25,7 +25,10 @@ module _ (m : Symbols) where
   abbrev all : ℕ
   all = sum_to m.layout.n (width_in m.layout)
 
-  bits_past : (b : ℕ) (f : ℕ → ℕ) → ((k : ℕ) → all ≤ f k) → from_bits b (λ k. at (bits_of (width_in m.layout) m.message.now m.layout.n) (f k)) ≡ 0
+  bits_past :
+      (b : ℕ) (f : ℕ → ℕ)
+      → ((k : ℕ) → all ≤ f k)
+      → from_bits b (λ k. at (bits_of (width_in m.layout) m.message.now m.layout.n) (f k)) ≡ 0
   bits_past b f h =
       bits_zero b (λ k. at (bits_of (width_in m.layout) m.message.now m.layout.n) (f k)) (λ k _.
       at-past (bits_of (width_in m.layout) m.message.now m.layout.n) (f k)

@@ -37,7 +37,10 @@ module _ (l : Layout) where
       sym (all_bits (l.n - l.leading)) ∙ ap (λ (m : ℕ). sum_to m (width_in l)) e ∙ sym (sum_same p.n (width p) (width_in l) (λ j _. w j))
 
 -- the number that the leftover bits make
-pub leftover_number : (p : Code) (bytes : List ℕ) {v : ℕ} → v ≡ symbol_at bytes (bit_count p) (8 * byte_count p - bit_count p) → ltb 0 v ≡ leftover_set p bytes
+pub leftover_number :
+    (p : Code) (bytes : List ℕ) {v : ℕ}
+    → v ≡ symbol_at bytes (bit_count p) (8 * byte_count p - bit_count p)
+    → ltb 0 v ≡ leftover_set p bytes
 unfolding leftover_set
 leftover_number p bytes {v} s =
     positive v ∙ ap (λ (x : ℕ). not (eqb x 0)) s ∙ sym (ap not (symbol_zero bytes (bit_count p) (8 * byte_count p - bit_count p)))

@@ -1,20 +1,18 @@
 -- What the operations write.
-use Rattle.std.proofs.Common.{◌≡◌, sym, ap, ◌∙◌, subst, true, cond, List, ℕ, ◌^◌, ◌≤◌, ◌<◌, take, arith, ext_get_or}
+use Rattle.std.proofs.Common.{◌≡◌, map, sym, ap, ◌∙◌, subst, true, cond, List, ℕ, ◌^◌, ◌<◌, arith}
 use mathlib.Core.Path.{fun_ext}
 use native.Mathlib.Decide.{dec_lt}
-use lib.Seq.{get_or-take, length-take-le}
 use borrow.Author.Tests.{le-leb, lt-leb}
 use lib.Dec.{T}
-use Rattle.definitions.specs.Words.{at, sum_to}
+use Rattle.definitions.specs.Words.{at, sum_to, up_from}
 use Rattle.definitions.specs.Codes.{Code}
 use Rattle.definitions.specs.Messages.{Message}
 use Rattle.definitions.specs.Packing.{packable, width, bit_count, byte_count, bytes_of, bits_of, symbol_at, is_leftover, pack, unpack}
 use Rattle.word_laws.proofs.Cells.{at-past}
 use Rattle.word_laws.proofs.BitLists.{bytes_same, bits_long}
-use Rattle.code_theorems.proofs.Packing.{below-radix, radix_power, unpack-long, unpack-at}
-use Rattle.bit_reader.specs.Taking.{width_in, Taken}
+use Rattle.code_theorems.proofs.Packing.{below-radix, radix_power}
+use Rattle.bit_reader.specs.Taking.{width_in, taken}
 use Rattle.bit_reader.specs.declared.Layout.{Layout}
-use Rattle.bit_reader.specs.declared.Taking.{Taking}
 
 module _ (p : Code) where
   -- no symbol has a bit past the last
@@ -37,15 +35,14 @@ module _ (p : Code) where
 
     pub symbol_fits : packable p ≡ true → (s : List ℕ) → Message p s → (i : ℕ) → i < l.n → at s i < 2 ^ width_in l i
     symbol_fits powers s m i h =
-        subst (λ (x : ℕ). at s i < 2 ^ x) (w i) (subst (λ (x : ℕ). at s i < x) (radix_power p (subst T (sym powers) tt) i) (below-radix p s m i (omega arith)))
+        let radix = radix_power p (subst T (sym powers) tt) i in
+        subst (λ (x : ℕ). at s i < 2 ^ x) (w i) (subst (λ (x : ℕ). at s i < x) radix (below-radix p s m i (omega arith)))
 
     pub packed : (s : List ℕ) {m : ℕ} → m ≡ byte_count p → bytes_of m (at (bits_of (width_in l) s l.n)) ≡ pack p s
     packed s e = rw (e, widths, n) (packs s)
 
-    pub unpacked : (bytes : List ℕ) (t : Taking) → p.n ≤ 64 → Taken l bytes t → take p.n t.symbols ≡ unpack p bytes
-    unpacked bytes t h taken =
-        let long = length-take-le p.n t.symbols (omega (arith, taken.room)) in
-        ext_get_or 0 (take p.n t.symbols) (unpack p bytes) (long ∙ sym (unpack-long p bytes)) (λ i b.
-        let g : i < p.n = omega arith in
-        get_or-take p.n t.symbols i 0 g ∙ taken.symbols i (omega arith)
-        ∙ ap (λ (w : ℕ → ℕ). symbol_at bytes (sum_to i w) (w i)) widths ∙ sym (unpack-at p bytes i g))
+    pub unpacked : (bytes : List ℕ) → taken l bytes ≡ unpack p bytes
+    unfolding taken unpack
+    unpacked bytes =
+        ap (λ (v : ℕ → ℕ). map (λ i. symbol_at bytes (sum_to i v) (v i)) (up_from 0 l.n)) widths
+        ∙ ap (λ (k : ℕ). map (λ i. symbol_at bytes (sum_to i (width p)) (width p i)) (up_from 0 k)) n

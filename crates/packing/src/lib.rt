@@ -26,7 +26,6 @@ struct Packing<'a> {
     layout: Layout,
     ghost powers: { packable (the_code code) ≡ true },
     ghost cells: { (layout.n ≡ code.n) × (layout.leading ≡ code.n - code.r) },
-    ghost narrow: { (layout.wide ≤ 8) × (layout.narrow ≤ 8) },
     ghost widths: { (i : ℕ) → width (the_code code) i ≡ width_in layout i },
 }
 
@@ -93,6 +92,7 @@ impl<'a> Packing<'a> {
         0 < bits::symbol_at(bytes, end, 8 * self.byte_count() - end)
     }
 
+    // The bytes of a message that can be written.
     fn store_bytes(&self, message: &[u8], out: &mut [u8])
         requires fits { (length message.now ≡ self.now.code.n) × (symbols_fit (the_code self.now.code) message.now ≡ true) }
         requires room { length out.old ≡ byte_count (the_code self.now.code) }
@@ -105,15 +105,15 @@ impl<'a> Packing<'a> {
         symbols.store(out);
     }
 
+    // The symbols of bytes.
     fn store_symbols(&self, bytes: &[u8], out: &mut [u8])
         requires room { length out.old ≡ self.now.code.n }
         ensures { out.new ≡ unpack (the_code self.now.code) bytes.now }
     {
-        let taken = bit_reader::take_symbols(bytes, self.layout);
-        out.copy_from_slice(&taken.symbols[..out.len()]);
+        self.layout.take_symbols(bytes, out);
     }
 
-    // A message's bytes.
+    // A message's bytes, or the first refusal of 8 and 9.
     #[tactic(auto, unfolding(crate::specs::Operations::packing))]
     fn pack(&self, message: &[u8], out: &mut [u8]) -> Result<(), Refusal>
         ensures { leaves (answer_of result) out.new ≡ packing (the_code self.now.code) message.now out.old }
@@ -128,7 +128,7 @@ impl<'a> Packing<'a> {
         Ok(())
     }
 
-    // The message of bytes.
+    // The message of bytes, or the first refusal of 8 and 19.
     #[tactic(auto, unfolding(crate::specs::Operations::unpacking))]
     fn unpack(&self, bytes: &[u8], out: &mut [u8]) -> Result<(), Refusal>
         ensures { leaves (answer_of result) out.new ≡ unpacking (the_code self.now.code) bytes.now out.old }

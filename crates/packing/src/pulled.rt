@@ -12,7 +12,6 @@ pub struct Symbols<'a> {
     pub message: &'a [u8],
     pub layout: Layout,
     pub ghost long: { length message.now ≡ layout.n },
-    pub ghost narrow: { (layout.wide ≤ 8) × (layout.narrow ≤ 8) },
     pub ghost below: { (i : ℕ) → i < layout.n → at message.now i < 2 ^ width_in layout i },
 }
 
@@ -36,7 +35,7 @@ impl Pulled {
         let i = self.cells;
         Pulled {
             value: self.value + bits::raised(symbols.message[i], self.bits),
-            bits: self.bits + bit_reader::width_at(symbols.layout, i),
+            bits: self.bits + symbols.layout.width_at(i),
             cells: i + 1,
         }
     }

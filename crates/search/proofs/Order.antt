@@ -56,7 +56,7 @@ module _ (p : Code) (k : Risen) (left cell mag : ℕ) where
       z = s.before cell (omega arith)
 
       plus : (i : ℕ) → magnitude_at (added k cell (mag + 1)) i ≡ magnitude_at k i + magnitude_of cell (mag + 1) i
-      plus = added-at k cell (mag + 1) (s.free3 (omega arith)) z
+      plus = added-at k s.three (s.free 2 (omega arith)) cell (mag + 1) z
 
       here : magnitude_at (added k cell (mag + 1)) cell ≡ mag + 1
       here = plus cell ∙ ap₂ ◌+◌ z (of_here cell (mag + 1) cell refl) ∙ zero-add (mag + 1)

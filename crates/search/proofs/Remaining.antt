@@ -39,7 +39,7 @@ remains-lowered p s k rest left c k' rest' h g b e = record {
 module _ (p : Code) (s : List ℕ) (k : Risen) (left cell : ℕ) (ch : Chosen k left cell) (one : 1 ≤ left) where
   pub remains_start : (rest : List ℕ) → Remains p s k rest → Remains p s (added k cell 0) rest
   remains_start rest r =
-      remains_same p s k (added k cell 0) rest (word_same p.n k (added k cell 0) (λ i h. sym (added_none k cell (ch.free3 (omega arith)) i))) r
+      remains_same p s k (added k cell 0) rest (word_same p.n k (added k cell 0) (λ i h. sym (added_none k ch.three (ch.free 2 (omega arith)) cell i))) r
 
   pub remains-next :
       (mag : ℕ) (rest rest' : List ℕ) → cell < p.n → ((i : ℕ) → column p i cell < p.M) → Remains p s (added k cell mag) rest
@@ -47,7 +47,7 @@ module _ (p : Code) (s : List ℕ) (k : Risen) (left cell : ℕ) (ch : Chosen k 
   remains-next mag rest rest' h b r e = remains-lowered p s (added k cell mag) rest r cell (added k cell (mag + 1)) rest' h more b e
     where
       plus : (d j : ℕ) → magnitude_at (added k cell d) j ≡ magnitude_at k j + magnitude_of cell d j
-      plus d = added-at k cell d (ch.free3 (omega arith)) (ch.before cell (omega arith))
+      plus d = added-at k ch.three (ch.free 2 (omega arith)) cell d (ch.before cell (omega arith))
 
       regroup : (a x y z : ℕ) → x ≡ y + z → a + x ≡ a + y + z
       regroup a x y z e = omega arith

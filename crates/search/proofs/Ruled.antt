@@ -9,7 +9,7 @@ use Rattle.definitions.specs.Codes.{Code}
 use Rattle.opening.specs.Viewed as viewed
 use Rattle.candidate_patterns.specs.declared.Risen.{Risen}
 use Rattle.candidate_patterns.specs.Candidates.{word_of, added, Chosen, Remains, SyndromeInRange}
-use Rattle.candidate_patterns.proofs.Choices.{chosen-next, chosen-added}
+use Rattle.candidate_patterns.proofs.Choices.{chosen_later, chosen-next, chosen-added}
 use Rattle.candidate_patterns.proofs.Tests.{misses}
 use Rattle.search_filters.specs.Filters.{NoneAt, NoneFrom}
 use mathlib.Core.Option.{Option, none}
@@ -56,10 +56,6 @@ module _ (p : Code) (k : Risen) (f : List ℕ → Bool) where
       (let q : t + suc d * p.l ≡ t + p.l + d * p.l = omega (arith, add-mul d 1 p.l, one-mul p.l) in q)
       ∙ cells_fail d (c + 1) (t + p.l) (omega arith) (chosen-next k 1 c ch) (λ c' g a. fails c' g (omega arith))
       ∙ sym (cell_skip p k 1 c (omega arith) h ch f t (t + p.l) none_here)
-
-chosen_later : (k : Risen) (left cell c : ℕ) → cell ≤ c → Chosen k left cell → Chosen k left c
-chosen_later k left cell c h ch =
-    record { few = ch.few; free3 = ch.free3; free2 = ch.free2; free1 = ch.free1; before = λ i g. ch.before i (omega arith) }
 
 pub range : (a : Asked) → SyndromeInRange (viewed.code a.code) a.s
 range a = record { below = a.below; past = a.past }

@@ -1,7 +1,7 @@
 // The first error pattern with a syndrome, shared by codes and digit planes: two functions that choose a cell and a magnitude.
 #![tactic(auto)]
 
-ghost use Rattle.std.specs.Prelude.{◌≡◌, true, ℕ, ◌+◌, ◌<◌, ◌≤◌, length};
+ghost use Rattle.std.specs.Prelude.{◌≡◌, true, ℕ, ◌+◌, ◌<◌, ◌≤◌, length, IfSome};
 ghost use Rattle.definitions.specs.Words.{at, all_below};
 ghost use Rattle.definitions.specs.Codewords.{syndrome_entry};
 ghost use Rattle.definitions.specs.Patterns.{patterns_of};
@@ -13,7 +13,7 @@ ghost use Rattle.candidate_patterns.specs.Candidates.{test_for};
 ghost use Rattle.search_filters.specs.Filters.{LastCells};
 
 use candidate_patterns::asked::Asked;
-use candidate_patterns::{Risen, passes};
+use candidate_patterns::{Rise, Risen, passes};
 use std::ops::ControlFlow;
 
 // The choices so far: the cells risen, how many more are left, from which cell on, and how many patterns were tried before.
@@ -33,14 +33,15 @@ pub struct Pattern {
     pub tried: usize,
 }
 
+// A choice that is not made.
+const NO_RISE: Rise = Rise {
+    cell: 0,
+    magnitude: 0,
+};
+
 // The empty pattern.
 const UNRISEN: Risen = Risen {
-    c1: 0,
-    m1: 0,
-    c2: 0,
-    m2: 0,
-    c3: 0,
-    m3: 0,
+    rises: [NO_RISE; 3],
 };
 
 // No choice left: the pattern is tested. A part of the search breaks off with the pattern that passed and how many were tried up to it,
@@ -57,17 +58,17 @@ fn test_pattern(a: &Asked, rest: &[u8; 12], k: Choices) -> ControlFlow<(Risen, u
     ControlFlow::Continue(tried)
 }
 
-// The next cell is chosen. `last` is read where two choices or more are left.
+// The next cell is chosen. With a table of last cells, the cells that cannot end a pattern are passed over.
 #[cycle(choosing)]
 fn choose_cell(
     a: &Asked,
-    last: &[u8],
+    last: Option<&[u8; 4096]>,
     rest: &[u8; 12],
     k: Choices,
 ) -> ControlFlow<(Risen, usize), usize>
     requires reached { Reached a.now k rest.now }
     requires room { k.tried + length (cells_left a.now k) ≤ 4096 }
-    requires table { 2 ≤ k.left → LastCells (the_code a.now.code) last.now }
+    requires table { IfSome last (λ x. LastCells (the_code a.now.code) x.now) }
     ensures { sought_as a.now.code.n result ≡ seek (test_for a.now) (cells_left a.now k) k.tried }
 {
     if k.left == 0 {
@@ -88,13 +89,13 @@ fn choose_cell(
 #[cycle(choosing)]
 fn choose_magnitude(
     a: &Asked,
-    last: &[u8],
+    last: Option<&[u8; 4096]>,
     rest: &[u8; 12],
     k: Choices,
 ) -> ControlFlow<(Risen, usize), usize>
     requires reached { Reached a.now k rest.now × (1 ≤ k.left) × (k.cell < a.now.code.n) }
     requires room { k.tried + length (magnitudes_left a.now k) ≤ 4096 }
-    requires table { 2 ≤ k.left → LastCells (the_code a.now.code) last.now }
+    requires table { IfSome last (λ x. LastCells (the_code a.now.code) x.now) }
     ensures { sought_as a.now.code.n result ≡ seek (test_for a.now) (magnitudes_left a.now k) k.tried }
 {
     let column = search_filters::column_of(&a.code, k.cell);
@@ -106,13 +107,12 @@ fn choose_magnitude(
         tried = if search_filters::cannot_end_from(last, k.left - 1, k.cell + 1, &y) {
             tried + all
         } else {
+            let rise = Rise {
+                cell: k.cell,
+                magnitude: mag + 1,
+            };
             let risen = Risen {
-                c1: k.cell,
-                m1: mag + 1,
-                c2: k.risen.c1,
-                m2: k.risen.m1,
-                c3: k.risen.c2,
-                m3: k.risen.m2,
+                rises: [rise, k.risen.rises[0], k.risen.rises[1]],
             };
             let more = Choices {
                 risen,
@@ -142,7 +142,7 @@ fn heavier(a: &Asked, mut lighter: usize) -> Option<Pattern>
             cell: 0,
             tried: lighter,
         };
-        match choose_cell(a, &last[..], &a.s, start) {
+        match choose_cell(a, Some(&last), &a.s, start) {
             ControlFlow::Break((risen, u)) => {
                 return Some(Pattern {
                     risen,
@@ -177,7 +177,7 @@ pub fn first_pattern(a: &Asked) -> Option<Pattern>
         cell: 0,
         tried: 1,
     };
-    match choose_cell(a, &a.word[..0], &a.s, start) {
+    match choose_cell(a, None, &a.s, start) {
         ControlFlow::Break((risen, tried)) => Some(Pattern {
             risen,
             count: 1,

@@ -6,6 +6,8 @@ use native.Mathlib.Decide.{dec_lt}
 use native.Mathlib.Omega.{arith}
 use lib.ListN.{length, set, length-set}
 use lib.Seq.{get_or-set_same, get_or-set_other}
+use Rattle.std.specs.Prelude.{Option, Some, None, IfSome, IsSomeAnd}
+use Rattle.std.proofs.Common.{Bor}
 use Rattle.definitions.specs.Words.{at}
 use Rattle.definitions.specs.Codes.{Code}
 use Rattle.syndrome.specs.Columns.{column}
@@ -15,10 +17,16 @@ pub hash_same : (f g : ℕ → ℕ) → ((i : ℕ) → f i ≡ g i) → hash_of 
 hash_same f g h = rw (h 0, h 1, h 2, h 3, h 4, h 5, h 6, h 7, h 8, h 9, h 10, h 11)
 
 -- a hash at which no cell from the given one on stands
-pub ruled_out : (p : Code) (last rest : List ℕ) (cell : ℕ) → LastCells p last → at last (hash_of (at rest)) ≤ cell → NoneFrom p cell rest
+ruled_out : (p : Code) (last rest : List ℕ) (cell : ℕ) → LastCells p last → at last (hash_of (at rest)) ≤ cell → NoneFrom p cell rest
 ruled_out p last rest cell table past c from h g low high same =
     let later : c < at last (hash_of (at rest)) = rw (← hash_same (multiple_of p c g) (at rest) same) (table.above c g h low high) in
     omega arith
+
+pub table_rules_out :
+    (p : Code) (last : Option (Bor (List ℕ))) (rest : List ℕ) (cell : ℕ) → IfSome last (λ x. LastCells p x.now)
+    → IsSomeAnd last (λ x. at x.now (hash_of (at rest)) ≤ cell) → NoneFrom p cell rest
+table_rules_out p None rest cell table past = absurd past
+table_rules_out p (Some x) rest cell table past = ruled_out p x.now rest cell table past
 
 dec_eq : (a b : ℕ) → Dec (a ≡ b)
 dec_eq a b = by (dec_lt a b) (dec_lt b a)

@@ -1,7 +1,7 @@
 // Filters of the search: that no last choice can leave nothing of a syndrome, at a cell or from a cell on. They only rule out.
 #![tactic(auto)]
 
-ghost use Rattle.std.specs.Prelude.{◌≡◌, true, false, ℕ, ◌+◌, ◌*◌, ◌%◌, ◌<◌, ◌≤◌, length};
+ghost use Rattle.std.specs.Prelude.{◌≡◌, true, false, ℕ, ◌+◌, ◌*◌, ◌%◌, ◌<◌, ◌≤◌, length, IsSomeAnd};
 ghost use Rattle.definitions.specs.Words.{at};
 ghost use Rattle.opening.specs.Viewed.{code as the_code};
 ghost use Rattle.syndrome.specs.Columns.{column};
@@ -98,16 +98,15 @@ pub fn mark_cells(code: &Code, last: &mut [u8; 4096])
     }
 }
 
-// Whether one choice is left and no cell from `cell` on can make it: the last cell with a multiple of this hash is before.
-pub fn cannot_end_from(last: &[u8], left: usize, cell: usize, rest: &[u8; 12]) -> bool
-    requires { left ≡ 1 → length last.now ≡ 4096 }
-    ensures { result ≡ true → (left ≡ 1) × (at last.now (hash_of (at rest.now)) ≤ cell) }
+// Whether one choice is left and no cell from `cell` on can make it: the last cell with a multiple of this hash is before. Without a
+// table nothing is ruled out.
+pub fn cannot_end_from(last: Option<&[u8; 4096]>, left: usize, cell: usize, rest: &[u8; 12]) -> bool
+    ensures { result ≡ true → (left ≡ 1) × IsSomeAnd last.entry (λ x. at x.now (hash_of (at rest.now)) ≤ cell) }
 {
-    if left != 1 {
-        return false;
+    match last {
+        Some(cells) if left == 1 => usize::from(cells[hash(*rest)]) <= cell,
+        _ => false,
     }
-    let h = hash(*rest);
-    usize::from(last[h]) <= cell
 }
 
 // A multiple of an entry modulo m; most are below m already.

@@ -1,146 +1,131 @@
 -- Decoding plane after plane.
-use mathlib.Core.Path.{◌≡◌, sym, ap, ap₂, ◌∙◌}
-use mathlib.Core.Bool.{Bool, true, false, ◌&&◌, not}
-use mathlib.Core.List.{List, ◌∷◌}
-use mathlib.Core.Option.{Option, none, some}
-use Prim.Native.Nat.{ℕ, suc, ◌+◌, ◌*◌, ◌-◌, ◌%◌, ◌≤◌, ◌<◌}
-use native.Mathlib.Nat.{mul-le-mul_right}
+use Rattle.std.proofs.Common.{◌≡◌, sym, ap, ◌∙◌, Some, None, List, [], ◌∷◌, ℕ, zero, suc, ◌+◌, ◌*◌, ◌-◌, ◌%◌, ◌<◌, ◌≤◌}
+use Rattle.std.proofs.Common.{length, take, drop, arith, get_or, cond, not, ◌==◌, count_by, zip}
+use Rattle.std.proofs.lemmas.List.Sums.{sum_by-cons}
+use Rattle.std.specs.Prelude as std
+use Rattle.std.proofs.Math.Option.{Option, none, some}
+use mathlib.Core.Path.{refl}
+use native.Mathlib.Nat.{mul_assoc, le-mul_of_pos_right, mul-le-mul_right}
 use native.Mathlib.Numerals.{add-one}
-use native.Mathlib.Omega.{arith}
-use lib.Dec.{eqb}
-use lib.ListN.{length, take, drop}
-use lib.Seq.{drop-cons, length-take-le, get_or-take}
-use borrow.Author.Tests.{eq-eqb, ne_eqb, lt-ltb, le-ltb}
-use Rattle.definitions.specs.Words.{at, all_below, distance}
-use Rattle.definitions.specs.Answers.{Answer, given, refused, refused_at, refuse◌when◌else◌, result}
-use Rattle.definitions.specs.Codes.{Code}
-use Rattle.definitions.specs.Stacks.{Stack, levels, digits}
+use lib.ListN.{drop_of_length-le}
+use Rattle.definitions.specs.Words.{at, distance}
+use Rattle.definitions.specs.Answers.{Answer, given, refused_at, result}
+use Rattle.definitions.specs.Stacks.{digits, product, levels}
 use Rattle.definitions.specs.StackDecoding.{first_with_syndrome, lowered, decode_planes, decode_word}
-use Rattle.definitions.specs.StackOperations.{open_stack, decode_stack}
-use Rattle.candidate_patterns.specs.Candidates.{magnitude_at, word_of}
-use Rattle.search.specs.Search.{found_word}
-use Rattle.candidate_patterns.specs.declared.Risen.{Risen}
-use Rattle.search.specs.declared.Found.{Found}
-use Rattle.search.specs.declared.Found.TheVariants.{Pattern, Nothing}
-use Rattle.candidate_patterns.proofs.Choices.{length-word, word_at}
 use Rattle.word_laws.proofs.Cells.{at-map2, length-map2, each_at}
 use Rattle.word_laws.proofs.Lists.{first_some}
 use Rattle.code_theorems.proofs.Acceptance.{in_pattern}
-use Rattle.stack_opening.specs.StackOpening.{plane_no, plane_in, PlanesReady}
-use Rattle.stack_opening.specs.declared.Plane.{Plane}
-use Rattle.answers.specs.Answering.{refused_as, leaves}
-use Rattle.answers.specs.declared.Refusal.{Refusal}
-use Rattle.answers.proofs.Beginning.{not_open, wrong_buffer, both_fit}
-use Rattle.stack_opening.proofs.Planes.{value_at, planes_from, none_left, left_next, good, next-value, value-high}
-use Rattle.stack_decoding.specs.StackReading.{levels_of}
-use Rattle.stack_decoding.specs.declared.Decoded.{Decoded}
+use Rattle.stack_theorems.proofs.Opened.{product_pos, plane_pos}
+use Rattle.answers.specs.Answering.{leaves}
+use Rattle.opening.specs.Viewed.{code}
+use Rattle.candidate_patterns.specs.Candidates.{magnitude_at, word_of}
+use Rattle.candidate_patterns.specs.declared.Risen.{Risen}
+use Rattle.candidate_patterns.proofs.Choices.{length-word, word_at}
+use Rattle.search.specs.Search.{found_word}
+use Rattle.search.specs.declared.Pattern.{Pattern}
+use Rattle.stack_opening.specs.Planes.{as_codes}
+use Rattle.stack_opening.specs.Viewed.{stack}
+use Rattle.stack_opening.specs.declared.Stack.{Stack}
+use Rattle.stack_opening.specs.declared.plane.Plane.{Plane}
+use Rattle.stack_operations.proofs.Planes.{From, value, later, are_planes, next_plane, from_stack, plane_cells, is_plane}
 
--- the cells that differ, from cell i on
-module _ (x y : List ℕ) (same : length x ≡ length y) (i : ℕ) (h : i < length x) where
-  split : distance (drop i x) (drop i y) ≡ distance (at x i ∷ drop (suc i) x) (at y i ∷ drop (suc i) y)
-  split = ap₂ distance (drop-cons x i 0 h) (drop-cons y i 0 (omega arith))
-
-  pub cell_differs : (at x i ≡ at y i → ⊥) → distance (drop i x) (drop i y) ≡ 1 + distance (drop (i + 1) x) (drop (i + 1) y)
-  cell_differs n = rw add-one (split ∙ rw (ne_eqb (at x i) (at y i) n))
-
-  pub cell_same : at x i ≡ at y i → distance (drop i x) (drop i y) ≡ distance (drop (i + 1) x) (drop (i + 1) y)
-  cell_same e = rw add-one (split ∙ rw (eq-eqb (at x i) (at y i) e) (omega arith))
+-- the cells that differ, counted among pairs
+pub distance_is : (x y : List ℕ) → count_by (λ p. not (p.0 == p.1)) (zip x y) ≡ distance x y
+distance_is [] y = refl
+distance_is (a ∷ x) [] = refl
+distance_is (a ∷ x) (b ∷ y) =
+    sum_by-cons (λ (p : ℕ × ℕ). cond (not (p.0 == p.1)) 1 0) (a, b) (zip x y) ∙ grind (arith, distance_is x y)
 
 -- levels lowered cell by cell
-module _ (q w n : ℕ) (x : List ℕ) (k : Risen) (long : n ≤ length x) where
-  front : length (take n x) ≡ n
-  front = length-take-le n x long
+module _ (q w : ℕ) (x : List ℕ) (k : Risen) where
+  pub lowered_long : length (lowered q w x (word_of (length x) k)) ≡ length x
+  lowered_long = length-map2 (λ a b. (a + (q - b * w)) % q) x (word_of (length x) k) (sym (length-word (length x) k))
 
-  pub lowered_long : length (lowered q w (take n x) (word_of n k)) ≡ n
-  lowered_long = length-map2 (λ a b. (a + (q - b * w)) % q) (take n x) (word_of n k) (front ∙ sym (length-word n k)) ∙ front
+  pub lowered_at : (i : ℕ) → i < length x → (at x i + (q - magnitude_at k i * w)) % q ≡ at (lowered q w x (word_of (length x) k)) i
+  lowered_at i h =
+      ap (λ (b : ℕ). (at x i + (q - b * w)) % q) (sym (word_at (length x) k i h))
+      ∙ sym (at-map2 (λ a b. (a + (q - b * w)) % q) x (word_of (length x) k) i h (omega (arith, length-word (length x) k)))
 
-  pub lowered-at : (i : ℕ) → i < n → (at x i + (q - magnitude_at k i * w)) % q ≡ at (lowered q w (take n x) (word_of n k)) i
-  lowered-at i h =
-      ap₂ (λ (a b : ℕ). (a + (q - b * w)) % q) (sym (get_or-take n x i 0 h)) (sym (word_at n k i h))
-      ∙ sym (at-map2 (λ a b. (a + (q - b * w)) % q) (take n x) (word_of n k) i (omega (arith, front)) (omega (arith, length-word n k)))
+-- from plane j on, each with its place value
+abbrev pub decode_from : ℕ → ℕ → List Plane → List ℕ → Answer (List ℕ)
+decode_from q j [] x = given x
+decode_from q j (p ∷ ps) x =
+    elim (first_with_syndrome (code p.code) (digits p.w p.code.m x)) as (λ o. Answer (List ℕ))
+    [ none ↦ refused_at 11 j | some e ↦ decode_from q (suc j) ps (lowered q p.w x e) ]
 
--- plane j of m planes of an array is the next one to decode, on the present levels x
-module _ {b : List ℕ} {n m : ℕ} {planes : List Plane} (fits : m ≤ length planes) (each : PlanesReady b n planes m) (q : ℕ) where
-  -- what is decoded from plane j on
-  abbrev pub decoded_from : ℕ → List ℕ → Answer (List ℕ)
-  decoded_from j x = decode_planes q (value_at b planes j) j (planes_from b planes m j) x
+decode_is : (n q w : ℕ) (ps : List Plane) → From n w ps → (j : ℕ) (x : List ℕ) → decode_from q j ps x ≡ decode_planes q w j (as_codes ps) x
+unfolding decode_planes
+decode_is n q w [] h j x = refl
+decode_is n q w (p ∷ ps) h j x =
+    ap (λ (u : ℕ). elim (first_with_syndrome (code p.code) (digits u p.code.m x)) as (λ o. Answer (List ℕ))
+    [ none ↦ refused_at 11 j | some e ↦ decode_from q (suc j) ps (lowered q u x e) ]) (value n w p ps h)
+    ∙ step (λ e. decode_is n q (w * p.code.m) ps (later n w p ps h) (suc j) (lowered q w x e)) (first_with_syndrome (code p.code) (digits w p.code.m x))
+  where
+    step : ((e : List ℕ) → decode_from q (suc j) ps (lowered q w x e) ≡ decode_planes q (w * p.code.m) (suc j) (as_codes ps) (lowered q w x e))
+        → (o : Option (List ℕ))
+        → (elim o as (λ o. Answer (List ℕ)) [ none ↦ refused_at 11 j | some e ↦ decode_from q (suc j) ps (lowered q w x e) ])
+        ≡ (elim o as (λ o. Answer (List ℕ))
+        [ none ↦ refused_at 11 j | some e ↦ decode_planes q (w * p.code.m) (suc j) (as_codes ps) (lowered q w x e) ])
+    step f none = refl
+    step f (some e) = f e
 
-  module _ (j : ℕ) (more : j < m) (x : List ℕ) where
-    abbrev p : Plane
-    p = plane_no planes j
+-- a plane's place value times its c
+value_fits : (n w : ℕ) (ps : List Plane) → From n w ps → (j : ℕ) (p : Plane) → j < length ps → p ≡ get_or ps j p
+    → p.w * p.code.m ≤ w * product (as_codes ps)
+value_fits n w [] h j p l is = absurd (omega arith)
+value_fits n w (x ∷ ps) h zero p l is =
+    let a : p.w * p.code.m ≡ x.w * x.code.m = ap (λ (p : Plane). p.w * p.code.m) is in
+    let b : x.w * x.code.m ≡ w * x.code.m = ap (λ (u : ℕ). u * x.code.m) (value n w x ps h) in
+    let c = le-mul_of_pos_right (w * x.code.m) (product_pos n (as_codes ps) (are_planes n (w * x.code.m) ps (later n w x ps h))) in
+    omega (arith, a, b, c, mul_assoc w x.code.m (product (as_codes ps)))
+value_fits n w (x ∷ ps) h (suc j) p l is =
+    omega (arith, value_fits n (w * x.code.m) ps (later n w x ps h) j p (omega arith) is, mul_assoc w x.code.m (product (as_codes ps)))
 
-    abbrev next : Option (List ℕ) → Answer (List ℕ)
-    next o = elim o as (λ a. Answer (List ℕ)) [ none ↦ refused_at 11 j | some e ↦ decoded_from (j + 1) (lowered q p.w x e) ]
+pub value_most : (s : Stack) (j : ℕ) (p : Plane) → j < length (take s.m s.planes) → p ≡ get_or (take s.m s.planes) j p
+    → (p.w * p.code.m ≤ s.q) × (p.w ≤ s.q)
+value_most s j p h is =
+    let a = value_fits s.n 1 (take s.m s.planes) (from_stack s) j p h is in
+    let b = le-mul_of_pos_right p.w (plane_pos s.n (code p.code) (is_plane s.n p (plane_cells s j p h is))) in
+    (omega (arith, a, s.levels), omega (arith, a, b, s.levels))
 
-    abbrev pattern : Option (List ℕ)
-    pattern = first_with_syndrome (plane_in b p) (digits p.w p.parameters.m x)
+module _ (q : ℕ) (ps : List Plane) (j : ℕ) (p : Plane) (h : j < length ps) (is : p ≡ get_or ps j p) (x : List ℕ) (f : std.Option Pattern)
+    (found : found_word p.code.n f ≡ first_with_syndrome (code p.code) (digits p.w p.code.m x)) where
+  abbrev next : Option (List ℕ) → Answer (List ℕ)
+  next o = elim o as (λ a. Answer (List ℕ)) [ none ↦ refused_at 11 j | some e ↦ decode_from q (j + 1) (drop (j + 1) ps) (lowered q p.w x e) ]
 
-    split_plane : decoded_from j x ≡ next pattern
-    unfolding decode_planes
-    split_plane =
-        let rest = planes_from b planes m (j + 1) in
-        ap (λ (ps : List Code). decode_planes q (value_at b planes j) j ps x) (left_next fits each j more)
-        ∙ ap (λ (w : ℕ). elim (first_with_syndrome (plane_in b p) (digits w p.parameters.m x)) as (λ a. Answer (List ℕ))
-        [ none ↦ refused_at 11 j | some e ↦ decode_planes q (w * p.parameters.m) (suc j) rest (lowered q w x e) ]) (sym (each j more).value)
-        ∙ ap₂ (λ (v k : ℕ). elim pattern as (λ a. Answer (List ℕ)) [ none ↦ refused_at 11 j | some e ↦ decode_planes q v k rest (lowered q p.w x e) ])
-        (next-value fits each j more) (sym (add-one j))
+  split_plane : decode_from q j (drop j ps) x ≡ next (found_word p.code.n f)
+  split_plane = ap (λ (l : List Plane). decode_from q j l x) (next_plane ps j p p h is)
+      ∙ ap (λ (k : ℕ). elim (first_with_syndrome (code p.code) (digits p.w p.code.m x)) as (λ a. Answer (List ℕ))
+      [ none ↦ refused_at 11 j | some e ↦ decode_from q k (drop (j + 1) ps) (lowered q p.w x e) ]) (sym (add-one j))
+      ∙ ap next (sym found)
 
-    -- what was found
-    module _ (f : Found) (found : found_word n f ≡ pattern) where
-      pub nothing_found : f ≡ Nothing → decoded_from j x ≡ refused_at 11 j
-      nothing_found e = split_plane ∙ ap next (sym (sym (ap (found_word n) e) ∙ found))
+  pub nothing_found : f ≡ None → decode_from q j (drop j ps) x ≡ refused_at 11 j
+  nothing_found e = split_plane ∙ ap (λ (f : std.Option Pattern). next (found_word p.code.n f)) e
 
-      module _ (k : Risen) (count tried : ℕ) (e : f ≡ Pattern k count tried) where
-        is : pattern ≡ some (word_of n k)
-        is = sym (sym (ap (found_word n) e) ∙ found)
+  module _ (y : Pattern) (e : f ≡ Some y) where
+    pub magnitudes_fit : p.w * p.code.m ≤ q → (i : ℕ) → i < p.code.n → magnitude_at y.risen i * p.w ≤ q
+    unfolding first_with_syndrome
+    magnitudes_fit v i g =
+        let s : first_with_syndrome (code p.code) (digits p.w p.code.m x) ≡ some (word_of p.code.n y.risen) = sym found ∙ ap (found_word p.code.n) e in
+        let a = in_pattern (code p.code) (word_of p.code.n y.risen) (first_some _ _ (word_of p.code.n y.risen) s).0 in
+        let b : at (word_of p.code.n y.risen) i ≤ p.code.l
+        = each_at (λ u. u ≤ p.code.l) (word_of p.code.n y.risen) a.each i (omega (arith, length-word p.code.n y.risen)) in
+        let c : magnitude_at y.risen i * p.w ≤ p.code.m * p.w = mul-le-mul_right p.w (omega (arith, word_at p.code.n y.risen i g, p.whole.1)) in
+        omega arith
 
-        pub pattern-found : decoded_from j x ≡ decoded_from (j + 1) (lowered q p.w x (word_of n k))
-        pattern-found = split_plane ∙ ap next is
+pub decoded_all : (q j : ℕ) (ps : List Plane) (x : List ℕ) → length ps ≤ j → decode_from q j (drop j ps) x ≡ given x
+decoded_all q j ps x h = rw (drop_of_length-le ps h) refl
 
-        -- its magnitudes are below the plane's c
-        pub magnitudes-fit : value_at b planes m ≤ q → (i : ℕ) → i < n → magnitude_at k i * p.w ≤ q
-        unfolding first_with_syndrome
-        magnitudes-fit v i h =
-            let a = in_pattern (plane_in b p) (word_of n k) (first_some _ _ (word_of n k) is).0 in
-            let g : at (word_of n k) i ≤ p.parameters.l = each_at (λ u. u ≤ p.parameters.l) (word_of n k) a.each i (omega (arith, length-word n k)) in
-            let c : magnitude_at k i * p.w ≤ p.parameters.m * p.w = mul-le-mul_right p.w (omega (arith, word_at n k i h, (good fits each j more).top)) in
-            omega (arith, value-high fits each j more)
+decodes : (s : Stack) (y : List ℕ) → decode_planes (levels (stack s)) 1 0 (stack s).planes y ≡ decode_from s.q 0 (take s.m s.planes) y
+decodes s y = rw (← s.levels) (sym (decode_is s.n s.q 1 (take s.m s.planes) (from_stack s) 0 y))
 
-  -- after the last plane
-  pub decoded_all : (j : ℕ) → m ≤ j → (x : List ℕ) → decoded_from j x ≡ given x
-  unfolding decode_planes
-  decoded_all j h x = ap (λ (ps : List Code). decode_planes q (value_at b planes j) j ps x) (none_left fits each j h)
-
--- what decoding does once the buffers fit
-abbrev pub decode_rest : List ℕ → Stack → Answer (ℕ × List ℕ)
-decode_rest y S = refuse 10 when not (all_below (levels S) y) else decode_word S y
-
-module _ (b y out : List ℕ) where
-  pub decode-refused : (x : Refusal) → open_stack b ≡ refused_as x → leaves (refused_as x) out ≡ decode_stack b y out
-  unfolding decode_stack
-  decode-refused x e = not_open (open_stack b) y out (λ S. S.n) (λ S. S.n) (decode_rest y) x e
-
-  -- t is the answer of the test of both buffers
-  module _ (S : Stack) (opens : open_stack b ≡ given S) (t : Bool) (tested : t ≡ (eqb (length y) S.n && eqb (length out) S.n)) where
-    pub decode_wrong : not t ≡ true → leaves (refused 8) out ≡ decode_stack b y out
-    unfolding decode_stack
-    decode_wrong =
-        wrong_buffer (open_stack b) y out (λ S. S.n) (λ S. S.n) (decode_rest y) S opens S.n S.n (λ i. S.n) (λ i. S.n) t tested
-
-    pub decode_left : not t ≡ false → result (decode_rest y S) out ≡ decode_stack b y out
-    unfolding decode_stack
-    decode_left = both_fit (open_stack b) y out (λ S. S.n) (λ S. S.n) (decode_rest y) S opens S.n S.n (λ i. S.n) (λ i. S.n) t tested
-
--- the answer once the planes are decoded as d: of m planes, in words of n cells
-module _ (S : Stack) (y lent : List ℕ) (m n : ℕ) (d : Decoded) (decoded : levels_of m n d ≡ decode_planes (levels S) 1 0 S.planes y) where
-  pub not_all : d.planes < m → leaves (refused_at 11 d.planes) lent ≡ result (decode_word S y) lent
+module _ (s : Stack) (y out : List ℕ) where
+  pub refused_in : (j : ℕ) → decode_from s.q 0 (take s.m s.planes) y ≡ refused_at 11 j
+      → leaves (refused_at 11 j) out ≡ result (decode_word (stack s) y) out
   unfolding decode_word
-  not_all h =
-      let e : decode_planes (levels S) 1 0 S.planes y ≡ refused_at 11 d.planes = sym decoded ∙ rw (lt-ltb d.planes m h) in
-      rw e
+  refused_in j e = let f = decodes s y ∙ e in rw f refl
 
-  pub all_decoded : m ≤ d.planes → (x : List ℕ) → x ≡ take n d.levels → (k : ℕ) → k ≡ distance x y → leaves (given k) x ≡ result (decode_word S y) lent
+  pub given_by : (x : List ℕ) (k : ℕ) → decode_from s.q 0 (take s.m s.planes) y ≡ given x → k ≡ distance x y
+      → leaves (given k) x ≡ result (decode_word (stack s) y) out
   unfolding decode_word
-  all_decoded h x f k g =
-      let e : decode_planes (levels S) 1 0 S.planes y ≡ given x = sym decoded ∙ rw (le-ltb d.planes m h, ← f) in
-      rw (e, g)
+  given_by x k e g = let f = decodes s y ∙ e in rw (f, g) refl

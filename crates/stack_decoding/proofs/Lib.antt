@@ -1,4 +1,2 @@
--- distances, lowered levels, planes decoded one after another, and the refusals of decoding
+-- plane after plane
 pub mod Decoding
--- from decoding's equation to the demands
-pub mod Clauses

@@ -26,6 +26,7 @@ collected qs p (given ps) = ap given (sym (append_assoc qs (p ∷ []) ps))
 collected qs p (refused k) = refl
 collected qs p (refused_at k j) = refl
 
+-- a refusal passes every step
 pub after_refused : {A B : Type 0} (x : Refusal) (f : A → Answer B) → after (refused_as x) f ≡ refused_as x
 after_refused {A} {B} x f = elim x as (λ y. after (refused_as {A = A} y) f ≡ refused_as {A = B} y) [ NoPatternInPlane j ↦ refl | _ ↦ refl ]
 
@@ -57,7 +58,9 @@ module _ (start : List ℕ) (n m : ℕ) (before : List Code) (rest : List ℕ) (
   unfolding open_planes
   left_refused x h e =
       let d : m - j ≡ suc (m - (j + 1)) = omega arith in
-      left ∙ ap (λ (k : ℕ). after (open_planes k n rest) λ ps. given (before ++ ps)) d ∙ rw e (ap (λ (a : Answer (List Code)). after a λ ps. given (before ++ ps)) (after_refused x _) ∙ after_refused x _)
+      left
+      ∙ ap (λ (k : ℕ). after (open_planes k n rest) λ ps. given (before ++ ps)) d
+      ∙ rw e (ap (λ (a : Answer (List Code)). after a λ ps. given (before ++ ps)) (after_refused x _) ∙ after_refused x _)
 
   pub left_end : m ≤ j → open_planes m n start ≡ (refuse 3 when not (eqb (length rest) 0) else given before)
   unfolding open_planes

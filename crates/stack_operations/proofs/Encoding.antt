@@ -115,5 +115,6 @@ module _ (x : Stack) (s : List ℕ) where
     pub level_small : (i : ℕ) → i < x.n → at (encode_word (stack x) s) i < 64
     level_small i h =
         let c = (stack_messages_codewords (stack x) (stack_planes x)).codeword s m in
-        let b : at (encode_word (stack x) s) i < levels (stack x) = each_at (λ v. v < levels (stack x)) (encode_word (stack x) s) c.bounded i (omega (arith, long_word)) in
+        let b : at (encode_word (stack x) s) i < levels (stack x)
+        = each_at (λ v. v < levels (stack x)) (encode_word (stack x) s) c.bounded i (omega (arith, long_word)) in
         omega (arith, b, x.levels, x.size)

@@ -26,6 +26,7 @@ digits_decide n p good w c long =
     ∙ is_true (all_below p.M (drop (data_cells p) d)) (each_below p.M (drop (data_cells p) d) (each-drop (λ v. v < p.M) (data_cells p) d small)))
 
 -- what is left to test of a word of n levels below q
-pub codeword_decides : (S : Stack) (c : List ℕ) → length c ≡ S.n → all_below (levels S) c ≡ true → is_stack_codeword S c ≡ all_planes (λ w p. is_codeword p (digits w p.M c)) 1 S.planes
+pub codeword_decides : (S : Stack) (c : List ℕ) → length c ≡ S.n → all_below (levels S) c ≡ true
+    → is_stack_codeword S c ≡ all_planes (λ w p. is_codeword p (digits w p.M c)) 1 S.planes
 unfolding is_stack_codeword
 codeword_decides S c e h = rw (eq-eqb (length c) S.n e, h)

@@ -1,5 +1,6 @@
 -- Planes one after another: what holds from a plane and its place value on.
-use Rattle.std.proofs.Common.{◌≡◌, sym, ap, ◌∙◌, true, List, [], ◌∷◌, ◌++◌, map, ℕ, suc, ◌+◌, ◌*◌, ◌-◌, ◌<◌, ◌≤◌, length, take, drop, arith, All, drop-cons, get_or}
+use Rattle.std.proofs.Common.{◌≡◌, sym, ap, ◌∙◌, true, List, [], ◌∷◌, ◌++◌, map, ℕ, suc, ◌+◌, ◌*◌, ◌-◌, ◌<◌, ◌≤◌}
+use Rattle.std.proofs.Common.{length, take, drop, arith, All, drop-cons, get_or}
 use mathlib.Core.Path.{refl}
 use mathlib.Core.List.{append_assoc, append-nil}
 use lib.ListN.{length-append, drop_of_length-le}
@@ -94,9 +95,6 @@ module _ (n : ℕ) (c : List ℕ) (ps : List Plane) (at : ℕ) (out : List ℕ) 
   Done = parts c ps ≡ take at out ++ parts c (drop j ps)
 
   module _ (p : Plane) (h : j < length ps) (is : p ≡ get_or ps j p) where
-    pub cells_here : All (λ p. p.code.n ≡ n) ps → p.code.n ≡ n
-    cells_here each = ap (λ (p : Plane). p.code.n) is ∙ each j p h
-
     module _ (e : p.code.n ≡ n) where
       pub room_next : (size : ℕ) → Room size → at + (n - p.code.r) + message_length (as_codes (drop (j + 1) ps)) ≡ size
       room_next size r = omega (arith, rw (next_plane ps j p p h is) at r)
@@ -126,6 +124,10 @@ module _ (n : ℕ) (c : List ℕ) (ps : List Plane) (at : ℕ) (out : List ℕ) 
 -- an opened stack
 pub from_stack : (s : Stack) → From s.n 1 (take s.m s.planes)
 from_stack s = record { each = grind (arith, common_steps, s.each); values = s.values }
+
+-- its planes have its cells
+pub plane_cells : (s : Stack) (j : ℕ) (p : Plane) → j < length (take s.m s.planes) → p ≡ get_or (take s.m s.planes) j p → p.code.n ≡ s.n
+plane_cells s j p h is = ap (λ (p : Plane). p.code.n) is ∙ (from_stack s).each j p h
 
 pub stack_planes : (s : Stack) → ArePlanes s.n (stack s).planes
 stack_planes s = are_planes s.n 1 (take s.m s.planes) (from_stack s)

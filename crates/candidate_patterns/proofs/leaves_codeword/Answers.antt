@@ -7,29 +7,17 @@ use Rattle.candidate_patterns.proofs.leaves_codeword.Goals as goal
 pub returns-then-is_above : goal.returns-then-is_above
 returns-then-is_above c =
     let a = c.args.a.now in
-    above_fails (code a.code) a.word.now c.args.k (a.long c.requires.asked) c.args.k.c1 _ c.is_above.ensures c.if-is_above.true
-
-pub returns-then-is_above-2 : goal.returns-then-is_above-2
-returns-then-is_above-2 c =
-    let a = c.args.a.now in
-    above_fails (code a.code) a.word.now c.args.k (a.long c.requires.asked) c.args.k.c2 _ c.is_above-2.ensures c.if-is_above-2.true
-
-pub returns-then-is_above-3 : goal.returns-then-is_above-3
-returns-then-is_above-3 c =
-    let a = c.args.a.now in
-    above_fails (code a.code) a.word.now c.args.k (a.long c.requires.asked) c.args.k.c3 _ c.is_above-3.ensures c.if-is_above-3.true
+    above_fails (code a.code) a.word.now c.args.k (a.long c.requires.asked) _ _ c.is_above.ensures c.if-is_above.true
 
 pub returns-then-high-a : goal.returns-then-high-a
 returns-then-high-a c =
     let a = c.args.a.now in
     let long = a.long c.requires.asked in
-    let under = chosen_under (code a.code) a.word.now c.args.k long _ _ _ c.is_above.ensures c.if-is_above.false c.is_above-2.ensures
-    c.if-is_above-2.false c.is_above-3.ensures c.if-is_above-3.false in
+    let under = chosen_under (code a.code) a.word.now c.args.k long (λ j h. c.loop-rise.invariant j (omega arith)) in
     no_ceiling (code a.code) a.word.now c.args.k long (omega arith) (below_each a.code.q a.word.now (rw (a.levels c.requires.asked) tt))
     c.requires.same under _ c.ceiling-high.ensures.0 c.if-high-a.true
 
 pub checks_fit-requires-clause-under : goal.checks_fit-requires-clause-under
 checks_fit-requires-clause-under c =
     let a = c.args.a.now in
-    chosen_under (code a.code) a.word.now c.args.k (a.long c.requires.asked) _ _ _ c.is_above.ensures c.if-is_above.false c.is_above-2.ensures
-    c.if-is_above-2.false c.is_above-3.ensures c.if-is_above-3.false
+    chosen_under (code a.code) a.word.now c.args.k (a.long c.requires.asked) (λ j h. c.loop-rise.invariant j (omega arith))

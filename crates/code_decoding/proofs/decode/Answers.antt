@@ -17,15 +17,15 @@ invariant_of-asked c =
       is = λ _. c.syndrome.ensures;
     }
 
-pub returns-in-Some : goal.returns-in-Some
-returns-in-Some c =
+pub returns : goal.returns
+returns c =
     let y = c.args.word.now in
-    let x = c.in-Some.field-0 in
+    let x = c.in-Some.pattern in
     let (decoded, tried) =
     when_found (code c.args.code.now) y c.syndrome.result c.args.out.now c.syndrome.ensures x c.in-Some.ensures.found c.in-Some.ensures.counts in
     let out = c.store_decoded.ensures ∙ ap (λ (n : ℕ). subtract y (word_of n x.risen)) c.requires.long in
     record { decoded = rw out decoded; tried = tried }
 
-pub returns-in-None-clause-decoded : goal.returns-in-None-clause-decoded
-returns-in-None-clause-decoded c =
-    when_nothing (code c.args.code.now) c.args.word.now c.syndrome.result c.args.out.now c.syndrome.ensures c.in-None.ensures.found
+pub returns-in_default-clause-decoded : goal.returns-in_default-clause-decoded
+returns-in_default-clause-decoded c =
+    when_nothing (code c.args.code.now) c.args.word.now c.syndrome.result c.args.out.now c.syndrome.ensures c.in_default.ensures.found

@@ -10,7 +10,7 @@ use Rattle.candidate_patterns.proofs.Choices.{chosen-next, chosen-added}
 use Rattle.opening.specs.declared.Code.{Code}
 use Rattle.opening.specs.Viewed.{code}
 use Rattle.search_filters.specs.Filters.{less_modulo}
-use Rattle.search_filters.proofs.Marks.{ruled_out}
+use Rattle.search_filters.proofs.Marks.{table_rules_out}
 use Rattle.search.specs.Search.{Reached, cells_from, magnitudes_from, seek, sought_as}
 use Rattle.search.proofs.Order.{cell_none, mag_none, seek_none}
 use Rattle.search.proofs.Steps.{cell_first, cell_hit, cell_skip, cell_next, mag_first, mag_hit, mag_skip, mag_next}
@@ -106,7 +106,7 @@ choose_magnitude-choose_cell-requires t c =
     let chosen = chosen-added k.risen k.left k.cell (l.mag + 1) reached.chosen some in
     let room = mag_first p k.risen k.left k.cell l.mag some c.loop-mag-test.true reached.chosen l.tried 4096 l.invariant.room in
     let falls : 2 * (k.left - 1) < t = let m = c.decreases in omega arith in
-    (falls, (record { chosen = chosen; cells = omega arith; remains = remains }, (room, λ two. c.requires.table (omega arith))))
+    (falls, (record { chosen = chosen; cells = omega arith; remains = remains }, (room, c.requires.table)))
 
 pub choose_magnitude-returns-in_err-tried : goal.choose_magnitude-returns-in_err-tried
 choose_magnitude-returns-in_err-tried t c =
@@ -134,7 +134,7 @@ choose_magnitude-loop-mag-preserved t c =
     elim c.if-cannot_end_from.branch [
       | choose_magnitude-then-cannot_end_from w ↦
           let (one, past) = c.cannot_end_from.ensures w.if-cannot_end_from.true in
-          let nothing = ruled_out p c.args.last.now c.lowered-y.result (k.cell + 1) (c.requires.table (omega arith)) past in
+          let nothing = table_rules_out p c.args.last c.lowered-y.result (k.cell + 1) c.requires.table past in
           tried_as _ _ (w.tried-is ∙ ap (λ (u : ℕ). l.tried + u) c.times-all.ensures.0)
           ∙ cells_ruled a (added k.risen k.cell (l.mag + 1)) c.lowered-y.result (k.left - 1) one remains (k.cell + 1)
           (chosen-added k.risen k.left k.cell (l.mag + 1) reached.chosen some) nothing l.tried

@@ -1,7 +1,7 @@
 use Rattle.std.proofs.Common.{◌∙◌, take, arith}
 use Rattle.std.proofs.lemmas.Grind.{common_steps}
 use Rattle.definitions.specs.StackMessages.{stack_message}
-use Rattle.stack_operations.proofs.Planes.{cells_here, room_next, done_next, done_last, parts_are, from_stack}
+use Rattle.stack_operations.proofs.Planes.{plane_cells, room_next, done_next, done_last, parts_are, from_stack}
 use Rattle.stack_operations.proofs.store_message.Goals as goal
 
 pub loop-plane-preserved : goal.loop-plane-preserved
@@ -12,7 +12,7 @@ loop-plane-preserved c =
     let ps = take s.m s.planes in
     let j = c.loop-plane.plane-index in
     let p = c.plane-item.result in
-    let e = cells_here s.n w ps c.loop-plane.at c.loop-plane.out j p (omega arith) c.plane-item.is (from_stack s).each in
+    let e = plane_cells s j p (omega arith) c.plane-item.is in
     record {
       long = grind (arith, common_steps);
       room = room_next s.n w ps c.loop-plane.at c.loop-plane.out j p (omega arith) c.plane-item.is e _ i.room;

@@ -1,9 +1,10 @@
 use Rattle.std.proofs.Common.{sym, ap, ◌∙◌}
+use Rattle.definitions.specs.Acceptance.{Accepted}
 use Rattle.definitions.specs.Demands.{of_code, DistanceDecides, KeepsMessages}
 use Rattle.answers.specs.Answering.{answer_with}
 use Rattle.opening.specs.Viewed.{code, opened_as}
 use Rattle.code_decoding.specs.Counts.{count_of}
-use Rattle.codec.proofs.Opens.{where_accepted}
+use Rattle.codec.proofs.Opens.{code_reads}
 use Rattle.codec.proofs.Tries.{unopened, tries, place}
 use Rattle.codec.proofs.codes.decode.Goals as goal
 
@@ -24,10 +25,12 @@ returns-clause-tried_is_place c =
 
 pub returns-clause-distance_decides : goal.returns-clause-distance_decides
 returns-clause-distance_decides c =
-    where_accepted (λ p. DistanceDecides (of_code p) c.args.received.now (answer_with count_of c.decode.result) c.decode.new.out)
-    c.args.body.now c.args.received.now c.args.out.now (code c.in-Ok.code) c.in-Ok.ensures c.decode.ensures.distance_decides
+    code_reads c.args.body.now c.args.received.now c.args.out.now (code c.in-Ok.code) c.in-Ok.ensures
+    (λ p. Accepted p → DistanceDecides (of_code p) c.args.received.now (answer_with count_of c.decode.result) c.decode.new.out)
+    c.decode.ensures.distance_decides
 
 pub returns-clause-keeps_messages : goal.returns-clause-keeps_messages
 returns-clause-keeps_messages c =
-    where_accepted (λ p. KeepsMessages (of_code p) c.args.received.now (answer_with count_of c.decode.result) c.decode.new.out)
-    c.args.body.now c.args.received.now c.args.out.now (code c.in-Ok.code) c.in-Ok.ensures c.decode.ensures.keeps_messages
+    code_reads c.args.body.now c.args.received.now c.args.out.now (code c.in-Ok.code) c.in-Ok.ensures
+    (λ p. Accepted p → KeepsMessages (of_code p) c.args.received.now (answer_with count_of c.decode.result) c.decode.new.out)
+    c.decode.ensures.keeps_messages

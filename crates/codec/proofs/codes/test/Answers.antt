@@ -1,4 +1,5 @@
 use Rattle.definitions.specs.Acceptance.{Accepted}
+use Rattle.definitions.specs.CodeOperations.{open_code}
 use Rattle.definitions.specs.Demands.{Tested}
 use Rattle.answers.specs.Answering.{answer_of}
 use Rattle.opening.specs.Viewed.{code}
@@ -7,4 +8,5 @@ use Rattle.codec.proofs.codes.test.Goals as goal
 
 pub returns-clause-accepted : goal.returns-clause-accepted
 returns-clause-accepted c =
-    where_opens (λ p. Tested (Accepted p) (answer_of c.test.result)) c.args.body.now (code c.in-Ok.code) c.in-Ok.ensures c.test.ensures.accepted
+    where_opens (open_code c.args.body.now) (code c.in-Ok.code) c.in-Ok.ensures (λ p. Tested (Accepted p) (answer_of c.test.result))
+    c.test.ensures.accepted

@@ -11,15 +11,17 @@ use Rattle.stack_opening.proofs.Stack.open.Goals as goal
 use Rattle.stack_opening.proofs.Stack.open.Goals.{Else-not-stack_in_range}
 
 -- the first two bytes passed their tests
-tested : (c : Else-not-stack_in_range) → open_stack c.args.body.now ≡ within_levels c.from-n.result (open_planes c.from-m.result c.from-n.result (drop 2 c.args.body.now))
+tested : (c : Else-not-stack_in_range)
+    → open_stack c.args.body.now ≡ within_levels c.from-n.result (open_planes c.from-m.result c.from-n.result (drop 2 c.args.body.now))
 tested c =
     opens _ _ c.args.body.now (omega arith) c.from-n.ensures c.from-m.ensures (sym c.stack_in_range.ensures.tested ∙ c.if-not-stack_in_range.false)
 
 pub returns-in_err-code : goal.returns-in_err-code
 returns-in_err-code c =
     let opened = tested (goal.at.returns-in_err-code c).Else-not-stack_in_range in
-    passed_on _ c.from_residual.result c.in_err-code.field-0.0 c.from_residual.ensures
-    ∙ sym (stack_refused c.args.body.now _ _ opened _ _ c.loop-j.j c.loop-j.invariant.left c.in_err-code.field-0.0 c.loop-j-test.true c.in_err-code.ensures.opened)
+    let x = c.in_err-code.field-0.0 in
+    passed_on _ c.from_residual.result x c.from_residual.ensures
+    ∙ sym (stack_refused c.args.body.now _ _ opened _ _ c.loop-j.j c.loop-j.invariant.left x c.loop-j-test.true c.in_err-code.ensures.opened)
 
 pub overflow_mul-q : goal.overflow_mul-q
 overflow_mul-q c =
@@ -54,11 +56,13 @@ returns-then-left_over-ne0 c =
 pub returns-then-q-gt-MOST_LEVELS : goal.returns-then-q-gt-MOST_LEVELS
 returns-then-q-gt-MOST_LEVELS c =
     let opened = tested (goal.at.returns-then-q-gt-MOST_LEVELS c).Else-not-stack_in_range in
-    stack_levels c.args.body.now _ _ opened _ _ c.loop-j.j c.loop-j.invariant.left (omega arith) c.if-left_over-ne0.false (omega (arith, c.loop-j.invariant.levels))
+    let i = c.loop-j.invariant in
+    stack_levels c.args.body.now _ _ opened _ _ c.loop-j.j i.left (omega arith) c.if-left_over-ne0.false (omega (arith, i.levels))
 
 pub returns : goal.returns
 returns c =
     let opened = tested (goal.at.returns c).Else-not-stack_in_range in
     let e : c.from-m.result ≡ c.loop-j.j = omega arith in
+    let i = c.loop-j.invariant in
     ap (λ k. given (record { n = c.from-n.result; planes = codes_to k c.loop-j.planes })) e
-    ∙ stack_given c.args.body.now _ _ opened _ _ c.loop-j.j c.loop-j.invariant.left (omega arith) c.if-left_over-ne0.false (omega (arith, c.loop-j.invariant.levels))
+    ∙ stack_given c.args.body.now _ _ opened _ _ c.loop-j.j i.left (omega arith) c.if-left_over-ne0.false (omega (arith, i.levels))

@@ -7,9 +7,11 @@ use Rattle.acceptance.proofs.columns.Columns.raise.Goals as goal
 
 pub add_modulo-requires : goal.add_modulo-requires
 add_modulo-requires c =
-    let columns = c.args.self.now in
-    (each_at _ c.args.s.now c.requires.2 c.loop-k.k (omega (arith, c.requires.1)),
-        rw (columns.entry c.args.cell c.loop-k.k c.requires.0) (columns_below columns.code c.args.cell c.loop-k.k), omega arith)
+    let columns = c.args.self.now in (
+      each_at _ c.args.s.now c.requires.2 c.loop-k.k (omega (arith, c.requires.1)),
+      rw (columns.entry c.args.cell c.loop-k.k c.requires.0) (columns_below columns.code c.args.cell c.loop-k.k),
+      omega arith,
+    )
 
 pub returns : goal.returns
 returns c =

@@ -1,2 +1,0 @@
--- what the clauses of the operations on codes suppose
-pub mod CodeClauses

@@ -1,0 +1,10 @@
+use Rattle.std.proofs.Common.{◌≡◌, take, drop, length}
+use Rattle.stack_decoding.proofs.Decoding.{decode_from}
+use Rattle.stack_decoding.proofs.decode.Given as goal
+
+abbrev pub invariant-loop-j : goal.invariant-loop-j
+invariant-loop-j l = record {
+  long : length l.levels ≡ 64;
+  done : decode_from l.stack.q 0 (take l.stack.m l.stack.planes) l.word
+      ≡ decode_from l.stack.q l.j (drop l.j (take l.stack.m l.stack.planes)) (take l.stack.n l.levels);
+}

@@ -1,2 +1,0 @@
--- what decoding a stack's word supposes and promises
-pub mod StackReading
