@@ -13,7 +13,7 @@ use Rattle.definitions.specs.StackCodewords.{AcceptedStack}
 use Rattle.definitions.specs.StackOperations.{open_stack}
 use Rattle.definitions.specs.Demands.{Coding, of_code, of_stack, DistanceDecides}
 use Rattle.answers.specs.Answering.{leaves}
-use Rattle.answers.proofs.Beginning.{carried}
+use Rattle.answers.proofs.Refusals.{carried}
 use Rattle.code_theorems.proofs.Demands as code
 use Rattle.stack_theorems.proofs.Demands as stacks
 use Rattle.image.proofs.Checked.{Named, plan, stack, row_of}

@@ -14,7 +14,7 @@ use Rattle.definitions.specs.Images as images
 use Rattle.definitions.specs.Images.{entry_at, body_of, reference_of, RowRecord, is_row, check_image, decode_row, recorded, read_row}
 use Rattle.answers.specs.Answering.{refused_as, leaves}
 use Rattle.answers.specs.declared.Refusal.{Refusal}
-use Rattle.answers.proofs.Beginning.{after-refused, result-refused}
+use Rattle.answers.proofs.Refusals.{after_refused, result_refused}
 use Rattle.directory.specs.Entries.{entry_as}
 use Rattle.directory.specs.declared.Entry.{Entry}
 
@@ -42,7 +42,7 @@ module _ (x : List ℕ) (k : ℕ) where
 
     pub image_refused : (y : Refusal) → check_image x ≡ refused_as y → leaves (refused_as y) out ≡ read_row x k out
     unfolding read_row
-    image_refused y e = result-refused _ y out (after-refused (check_image x) y _ e)
+    image_refused y e = rw (e, after_refused y, result_refused y out)
 
     module _ (checked : check_image x ≡ given tt) where
       pub no_row : is_row x k ≡ false → leaves (refused 2) out ≡ read_row x k out
