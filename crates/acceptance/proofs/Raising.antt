@@ -31,7 +31,8 @@ module _ (p : Code) (cell : ℕ) (s : List ℕ) where
   at-raised k h = at-up_from entry 0 16 k h ∙ ap entry (zero-add k)
 
   -- all entries are raised
-  pub all_raised : (x : List ℕ) → length x ≡ 16 → ((k : ℕ) → k < 16 → at x k ≡ entry k) → 0 < p.M → (x ≡ raised p cell s) × EachCell (λ v. v < p.M) x × (length x ≡ 16)
+  pub all_raised : (x : List ℕ) → length x ≡ 16 → ((k : ℕ) → k < 16 → at x k ≡ entry k) → 0 < p.M
+      → (x ≡ raised p cell s) × EachCell (λ v. v < p.M) x × (length x ≡ 16)
   all_raised x l h m = (
     ext_get_or 0 x (raised p cell s) (l ∙ sym length-raised) (λ k b. h k (omega (arith, l)) ∙ sym (at-raised k (omega (arith, l)))),
     at_each (λ v. v < p.M) x (λ k b. rw (h k (omega (arith, l))) (mod-lt (at s k + column p k cell) m)),

@@ -52,7 +52,7 @@ module _ (keys slots : List ℕ) (key : ℕ) where
     walk_reaches : Reaches slots key s
     walk_reaches = record { steps = w.steps; there = w.there; full = w.full }
 
-    -- a slot that holds the number j: of another key, or of this
+    -- a slot that holds the number j of another key
     module _ (j : ℕ) (e : j ≡ at slots s) (z : j ≡ 0 → ⊥) where
       pub walk_on : (at keys (j - 1) ≡ key → ⊥) → (r : ℕ) → r ≡ child_of j x → Walk keys slots key r (x / 2)
       unfolding slot_after bits_after
@@ -68,15 +68,6 @@ module _ (keys slots : List ℕ) (key : ℕ) where
         where
           held : j ≡ at slots (slot_after slots key w.steps)
           held = e ∙ ap (at slots) w.there
-
-      pub walk_found : (n : ℕ) → s < 4096 + 2 * n → j ≤ n → at keys (j - 1) ≡ key → SlotOf keys slots n key s
-      walk_found n h l o =
-          record {
-            within = h;
-            reaches = walk_reaches;
-            found = λ g. (j - 1, omega arith, o);
-            free = λ g. absurd (z (e ∙ g));
-          }
 
     -- an empty slot: were the key in the tree, the walk would have passed it
     pub walk_free : (n : ℕ) → s < 4096 + 2 * n → at slots s ≡ 0 → Tree keys slots n → SlotOf keys slots n key s

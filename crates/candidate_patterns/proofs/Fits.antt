@@ -4,14 +4,13 @@ use mathlib.Core.Logic.{◌⊎◌, inl, inr}
 use mathlib.Core.Bool.{Bool, true, false, ◌&&◌}
 use mathlib.Core.List.{List, [], ◌∷◌, map}
 use Prim.Native.Nat.{ℕ, zero, suc, ◌+◌, ◌-◌, ◌≤◌, ◌<◌, ◌%◌}
-use native.Mathlib.Numerals.{add-one}
 use native.Mathlib.Decide.{dec_lt}
 use native.Mathlib.Omega.{arith}
 use lib.Dec.{T, eqb, ltb}
 use lib.ListN.{length, replicate, drop, length-drop}
 use lib.Pointwise.{pointwise}
 use lib.Seq.{get_or-drop}
-use borrow.Author.Tests.{ltb-true, ltb-false, le-ltb, eqb-true, eq-eqb, ne_eqb}
+use borrow.Author.Tests.{ltb-true, ltb-false, le-ltb, eqb-true}
 use Rattle.definitions.specs.Words.{at, up_from, subtract, nowhere_above, all_below, all_zero, EachCell, EachPair}
 use Rattle.definitions.specs.Codes.{Code, data_cells}
 use Rattle.definitions.specs.Codewords.{syndrome_entry, syndrome, ceiling, is_codeword}

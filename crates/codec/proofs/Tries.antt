@@ -9,25 +9,16 @@ use Rattle.definitions.specs.Tried.{tried, tried_code, TriedIsPlace}
 use Rattle.code_theorems.proofs.Opened.{opened}
 use Rattle.code_theorems.proofs.Tried.{tried_is_place}
 use Rattle.answers.specs.declared.Refusal.{Refusal}
-use Rattle.answers.specs.declared.Refusal.TheVariants.{NoPatternInPlane}
 use Rattle.answers.specs.Answering.{answer_with, refused_as, leaves}
+use Rattle.answers.proofs.Refusals.{after_refused, result_refused}
 use Rattle.code_decoding.specs.declared.Decoded.{Decoded}
 use Rattle.code_decoding.specs.Counts.{count_of, tried_of}
 use Rattle.codec.specs.Shared.{decoding_by}
 
--- what follows a refusal is that refusal
-after_refused : {A B : Type 0} → (x : Refusal) (f : A → Answer B) → after (refused_as x) f ≡ refused_as x
-after_refused (NoPatternInPlane j) f = refl
-after_refused x f = refl
-
-refused_left : {A : Type 0} → (x : Refusal) (out : List ℕ) → (result {A = A} (refused_as x) out).answer ≡ refused_as x
-refused_left (NoPatternInPlane j) out = refl
-refused_left x out = refl
-
 -- a description that is refused
 pub unopened : (b y out : List ℕ) (x : Refusal) → refused_as x ≡ open_code b → refused_as x ≡ tried_code b y out
 unfolding tried_code decode_code
-unopened b y out x e = rw (← e, after_refused x, refused_left x out, after_refused x) refl
+unopened b y out x e = rw (← e, after_refused x, result_refused x out, after_refused x) refl
 
 told_left :
     (b y out : List ℕ) (p : Code) → code_of b ≡ p → (a : Result Decoded Refusal) → answer_with count_of a ≡ (decode_code b y out).answer

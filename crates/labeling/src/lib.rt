@@ -111,19 +111,13 @@ impl TryFrom<usize> for Labeling {
     }
 }
 
-// The m lowest bits of a byte in opposite order.
-#[tactic(auto, using(crate::proofs::Reversing::room))]
+// The m lowest bits of a byte in opposite order: the highest of the whole byte so.
+#[tactic(auto, using(crate::proofs::Reversing::by_machine))]
 fn reversed(m: usize, s: u8) -> u8
     requires { m ≤ 8 }
     ensures { result ≡ reversed m s }
 {
-    let mut rest = s;
-    let mut back = 0;
-    for _ in 0..m {
-        back = back * 2 + rest % 2;
-        rest /= 2;
-    }
-    back
+    (usize::from(s.reverse_bits()) >> (8 - m)) as u8
 }
 
 // The level of state s of q.

@@ -12,7 +12,7 @@ use Rattle.word_laws.proofs.Cells.{at-past}
 use Rattle.word_laws.proofs.Bits.{bits_same, bits_zero, bits_apart, bits_below, bits_whole, bits_low, bits_high}
 use Rattle.word_laws.proofs.BitLists.{bits_long, bits_small, bit_of_symbol, bytes_long, bytes_at, starts_grow}
 use Rattle.bit_reader.specs.Taking.{width_in}
-use Rattle.packing.specs.Packing.{Pulling, first, Full}
+use Rattle.packing.specs.Pulling.{Pulling, first, Full}
 use Rattle.packing.specs.declared.pulled.Pulled.{Pulled}
 use Rattle.packing.specs.declared.pulled.Symbols.{Symbols}
 

@@ -1,4 +1,6 @@
--- what opening for packing answers, and the bits that were pulled from a message and stand in no byte yet
-pub mod Packing
+-- an opened code whose messages can be bytes, as the definitions have it
+pub mod Viewed
+-- the bits that were pulled from a message and stand in no byte yet
+pub mod Pulling
 -- the operations of a code that opens and can be packed, and what their clauses suppose
-pub mod Operations
+pub mod Packing

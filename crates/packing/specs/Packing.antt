@@ -1,32 +1,31 @@
--- Making bytes: the bits that were pulled from a message and stand in no byte yet.
-use Rattle.std.specs.Prelude.{◌≡◌, ◌⊎◌, Result, ℕ, ◌+◌, ◌-◌, ◌≤◌}
-use Rattle.definitions.specs.Words.{at, sum_to}
-use Rattle.definitions.specs.Answers.{Answer}
+-- The operations of a code that opens and can be packed, and what their clauses suppose.
+use Rattle.std.specs.Prelude.{◌≡◌, ◌&&◌, not, List, ℕ, eqb, length}
+use Rattle.definitions.specs.Answers.{given, Result, refuse◌when◌else◌, result}
 use Rattle.definitions.specs.Codes.{Code}
-use Rattle.definitions.specs.PowersOfTwo.{from_bits}
-use Rattle.definitions.specs.Packing.{bits_of}
-use Rattle.answers.specs.Answering.{answer_with}
-use Rattle.answers.specs.declared.Refusal.{Refusal}
-use Rattle.opening.specs.Viewed.{code}
-use Rattle.bit_reader.specs.Taking.{width_in}
-use Rattle.packing.specs.declared.Packing.{Packing}
-use Rattle.packing.specs.declared.pulled.Pulled.{Pulled}
-use Rattle.packing.specs.declared.pulled.Symbols.{Symbols}
+use Rattle.definitions.specs.Messages.{Message, symbols_fit}
+use Rattle.definitions.specs.Packing.{byte_count, pack, unpack, leftover_set}
+use Rattle.definitions.specs.PackingOperations.{open_packable}
 
--- what opening for packing answered
-abbrev pub packable_as : Result Packing Refusal → Answer Code
-packable_as = answer_with (λ p. code p.code)
+unfoldable pub packing : Code → List ℕ → List ℕ → Result (Unit {0})
+packing p s out =
+    result
+    (refuse 8 when not (eqb (length s) p.n && eqb (length out) (byte_count p)) else
+    refuse 9 when not (symbols_fit p s) else
+    given (tt, pack p s))
+    out
 
--- where the bits that were pulled begin among all of the message's
-abbrev pub first : Symbols → Pulled → ℕ
-first m x = sum_to x.cells (width_in m.layout) - x.bits
+unfoldable pub unpacking : Code → List ℕ → List ℕ → Result (Unit {0})
+unpacking p bytes out =
+    result
+    (refuse 8 when not (eqb (length bytes) (byte_count p) && eqb (length out) p.n) else
+    refuse 19 when leftover_set p bytes else
+    given (tt, unpack p bytes))
+    out
 
--- what was pulled of a message
-pub record Pulling (m : Symbols) (x : Pulled) : Type 0 where
-  pub cells : x.cells ≤ m.layout.n
-  pub bits : x.bits ≤ sum_to x.cells (width_in m.layout)
-  pub value : x.value ≡ from_bits x.bits (λ k. at (bits_of (width_in m.layout) m.message.now m.layout.n) (first m x + k))
+-- for a code that opens and can be packed, a message that can be written, and an output buffer of its length
+abbrev pub WherePacked : List ℕ → List ℕ → List ℕ → (Code → Type 0) → Type 0
+WherePacked b s out Q = (p : Code) → open_packable b ≡ given p → Message p s → length out ≡ byte_count p → Q p
 
--- a byte's bits are all there, or there are no more
-abbrev pub Full : Symbols → Pulled → Type 0
-Full m x = (8 ≤ x.bits) ⊎ (x.cells ≡ m.layout.n)
+-- and for bytes and an output buffer of their lengths
+abbrev pub WhereUnpacked : List ℕ → List ℕ → List ℕ → (Code → Type 0) → Type 0
+WhereUnpacked b bytes out Q = (p : Code) → open_packable b ≡ given p → length bytes ≡ byte_count p → length out ≡ p.n → Q p

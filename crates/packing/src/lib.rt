@@ -10,7 +10,7 @@ ghost use Rattle.definitions.specs.PackingOperations.{open_packable, pack_code, 
 ghost use Rattle.answers.specs.Answering.{answer_of, leaves};
 ghost use Rattle.opening.specs.Viewed.{code as the_code};
 ghost use Rattle.bit_reader.specs.Taking.{width_in};
-ghost use Rattle.packing.specs.Operations.{packing, unpacking, WherePacked, WhereUnpacked};
+ghost use Rattle.packing.specs.Packing.{packing, unpacking, WherePacked, WhereUnpacked};
 
 mod pulled;
 
@@ -38,12 +38,12 @@ fn packable(code: &Code) -> bool
 }
 
 impl<'a> Packing<'a> {
-    ghost use Rattle.packing.specs.Packing.{packable_as};
+    ghost use Rattle.packing.specs.Viewed.{opened_as};
 
     // What both operations begin with: open; then 14.
     #[tactic(auto, unfolding(definitions::specs::PackingOperations::open_packable))]
     fn open(body: &'a [u8]) -> Result<Packing<'a>, Refusal>
-        ensures { packable_as result ≡ open_packable body.now }
+        ensures { opened_as result ≡ open_packable body.now }
     {
         let described = Code::open(body);
         let Ok(code) = described else {
@@ -114,7 +114,7 @@ impl<'a> Packing<'a> {
     }
 
     // A message's bytes, or the first refusal of 8 and 9.
-    #[tactic(auto, unfolding(crate::specs::Operations::packing))]
+    #[tactic(auto, unfolding(crate::specs::Packing::packing))]
     fn pack(&self, message: &[u8], out: &mut [u8]) -> Result<(), Refusal>
         ensures { leaves (answer_of result) out.new ≡ packing (the_code self.now.code) message.now out.old }
     {
@@ -129,7 +129,7 @@ impl<'a> Packing<'a> {
     }
 
     // The message of bytes, or the first refusal of 8 and 19.
-    #[tactic(auto, unfolding(crate::specs::Operations::unpacking))]
+    #[tactic(auto, unfolding(crate::specs::Packing::unpacking))]
     fn unpack(&self, bytes: &[u8], out: &mut [u8]) -> Result<(), Refusal>
         ensures { leaves (answer_of result) out.new ≡ unpacking (the_code self.now.code) bytes.now out.old }
     {
@@ -145,7 +145,7 @@ impl<'a> Packing<'a> {
 }
 
 // A message's bytes.
-#[tactic(auto, unfolding(definitions::specs::PackingOperations::pack_code, crate::specs::Operations::packing))]
+#[tactic(auto, unfolding(definitions::specs::PackingOperations::pack_code, crate::specs::Packing::packing))]
 pub fn pack(body: &[u8], message: &[u8], out: &mut [u8]) -> Result<(), Refusal>
     ensures result { leaves (answer_of result) out.new ≡ pack_code body.now message.now out.old }
     ensures packed { WherePacked body.now message.now out.old
@@ -159,7 +159,7 @@ pub fn pack(body: &[u8], message: &[u8], out: &mut [u8]) -> Result<(), Refusal>
 }
 
 // The message of bytes.
-#[tactic(auto, unfolding(definitions::specs::PackingOperations::unpack_code, crate::specs::Operations::unpacking))]
+#[tactic(auto, unfolding(definitions::specs::PackingOperations::unpack_code, crate::specs::Packing::unpacking))]
 pub fn unpack(body: &[u8], bytes: &[u8], out: &mut [u8]) -> Result<(), Refusal>
     ensures result { leaves (answer_of result) out.new ≡ unpack_code body.now bytes.now out.old }
     ensures unpacked { WhereUnpacked body.now bytes.now out.old

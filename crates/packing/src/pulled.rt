@@ -24,7 +24,7 @@ pub struct Pulled {
 }
 
 impl Pulled {
-    ghost use Rattle.packing.specs.Packing.{Pulling, first, Full};
+    ghost use Rattle.packing.specs.Pulling.{Pulling, first, Full};
 
     // The next symbol's bits after those that were pulled.
     fn with_symbol(self, symbols: &Symbols) -> Pulled

@@ -1,18 +1,12 @@
 -- Text written into a buffer, piece after piece.
-use mathlib.Core.Path.{◌≡◌, refl, sym, ap, ap₂, subst, ◌∙◌}
-use mathlib.Core.List.{List, [], ◌++◌, append_assoc, append-nil}
-use Prim.Native.Nat.{ℕ, ◌+◌, ◌≤◌}
+use Rattle.std.proofs.Common.{◌≡◌, refl, sym, ap, subst, ◌∙◌, List, [], ◌++◌, ℕ, ◌+◌, ◌≤◌, length, take, drop, arith}
+use mathlib.Core.Path.{ap₂}
+use mathlib.Core.List.{append_assoc, append-nil}
 use native.Mathlib.Nat.{add_assoc}
-use native.Mathlib.Omega.{arith}
-use lib.ListN.{length, take, drop, length-append, take-append-drop}
+use lib.ListN.{length-append, take-append-drop}
 use lib.Seq.{take_at, drop_at, drop-drop, length-take-le}
 use Rattle.row_lines.specs.Writing.{Puts, Room, Adds}
 use Rattle.row_lines.specs.declared.Lines.{Lines}
-
-pub puts_as :
-    {out : List ℕ} {place : ℕ} {t s : List ℕ} {next : ℕ} {after : List ℕ}
-    → t ≡ s → Puts out place t next after → Puts out place s next after
-puts_as {out} {place} {t} {s} {next} {after} e p = subst (λ (u : List ℕ). Puts out place u next after) e p
 
 module _ (out : List ℕ) (place : ℕ) where
   pub puts_nothing : Puts out place [] place out

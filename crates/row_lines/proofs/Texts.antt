@@ -1,15 +1,12 @@
 -- The texts of the lines: how they are put together, and how long they are.
-use mathlib.Core.Path.{◌≡◌, refl, sym, ap, ◌∙◌}
-use mathlib.Core.List.{List, [], ◌∷◌, ◌++◌, append_assoc, append-nil}
-use Prim.Native.Nat.{ℕ, ◌+◌, ◌*◌, ◌≤◌, ◌<◌}
+use Rattle.std.proofs.Common.{◌≡◌, refl, sym, ap, ◌∙◌, List, [], ◌∷◌, ◌++◌, ℕ, ◌+◌, ◌*◌, ◌≤◌, ◌<◌, length, take, lt-ltb, le-ltb, arith}
+use mathlib.Core.List.{append_assoc, append-nil}
 use native.Mathlib.Numerals.{add-one}
 use native.Mathlib.Decide.{dec_lt}
-use native.Mathlib.Omega.{arith}
-use lib.ListN.{length, take, length-append}
+use lib.ListN.{length-append}
 use lib.Seq.{take-suc, length-take-le}
-use borrow.Author.Tests.{lt-ltb, le-ltb}
 use Rattle.definitions.specs.Words.{at}
-use Rattle.definitions.specs.CartridgeLists.{refused_text, decimal, spaced, outcome_text, row_line, image_line}
+use Rattle.definitions.specs.CartridgeLists.{refused_text, decimal, spaced, outcome_text, row_line}
 use Rattle.definitions.specs.Answers.{Answer, given, refused, refused_at}
 use Rattle.answers.specs.Answering.{refusal_number, refused_as, leaves}
 use Rattle.answers.specs.declared.Refusal.{Refusal}
@@ -42,10 +39,6 @@ spaced-short (v ∷ x) =
     let b = spaced-short x in
     simp length-append (omega arith)
 
-pub refusal_small : (x : Refusal) → refusal_number x ≤ 19
-refusal_small (refusal.NoPatternInPlane j) = omega arith
-refusal_small x = omega arith
-
 -- a refusal's text has no plane
 pub refused-text : (x : Refusal) (levels : List ℕ) → refused_text ++ decimal (refusal_number x) ≡ outcome_text (refused_as x) levels
 refused-text (refusal.NoPatternInPlane j) levels = refl
@@ -65,9 +58,6 @@ row-short k a levels h =
     let d = decimal-short k in
     let o = outcome-short a levels h in
     simp length-append (omega arith)
-
-pub image_short : (k : ℕ) → length (image_line k) ≤ 256
-image_short k = let d = decimal-short k in simp length-append (omega arith)
 
 -- the room for the levels from cell i on
 pub levels_left :

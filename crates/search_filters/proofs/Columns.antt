@@ -1,16 +1,15 @@
 -- The entries of a column, stored one by one, and its multiples, one after the other.
 use mathlib.Core.Path.{◌≡◌, sym, ap, ◌∙◌}
 use mathlib.Core.List.{List}
-use Prim.Native.Nat.{ℕ, ◌+◌, ◌*◌, ◌-◌, ◌%◌, ◌≤◌, ◌<◌}
+use Prim.Native.Nat.{ℕ, ◌+◌, ◌*◌, ◌%◌, ◌≤◌, ◌<◌}
 use native.Mathlib.Nat.{mod-add-mod, add-mul, one-mul, zero-mul, zero-mod}
 use native.Mathlib.Decide.{dec_lt}
 use native.Mathlib.Omega.{arith}
-use lib.ListN.{length, set, replicate}
-use lib.Seq.{get_or-set_same, get_or-set_other}
+use lib.ListN.{length, replicate}
 use Rattle.definitions.specs.Words.{at}
 use Rattle.definitions.specs.Codes.{Code, data_cells}
 use Rattle.syndrome.specs.Columns.{column}
-use Rattle.syndrome.proofs.Columns.{column-past, column_unit, column-other}
+use Rattle.syndrome.proofs.Columns.{column-past}
 use Rattle.word_laws.proofs.Cells.{at-past}
 use Rattle.word_laws.proofs.Filling.{zeros-at}
 use Rattle.search_filters.specs.Filters.{less_modulo, times_of}
@@ -23,23 +22,6 @@ all_column p c s la h r g done left j = step (dec_lt j r)
     step : Dec (j < r) → at s j ≡ column p j c
     step (yes b) = done j b
     step (no b) = left j (omega arith) ∙ sym (column-past p j c la (omega arith) h)
-
--- a check cell's column has one entry
-pub unit_column :
-    (p : Code) (c : ℕ) → data_cells p ≤ c → c < p.n → p.r ≤ 12 → (i : ℕ) → at (set (replicate 12 0) (c - data_cells p) 1) i ≡ column p i c
-unit_column p c h g few i = step (dec_lt i (c - data_cells p)) (dec_lt (c - data_cells p) i)
-  where
-    other : (i ≡ c - data_cells p → ⊥) → at (set (replicate 12 0) (c - data_cells p) 1) i ≡ column p i c
-    other ne = get_or-set_other (replicate 12 0) (c - data_cells p) i 1 0 ne ∙ zeros-at 12 i ∙ column-other p i c h (λ q. ne (omega arith))
-
-    step : Dec (i < c - data_cells p) → Dec (c - data_cells p < i) → at (set (replicate 12 0) (c - data_cells p) 1) i ≡ column p i c
-    step (yes l) m = other (λ q. omega arith)
-    step (no l) (yes m) = other (λ q. omega arith)
-    step (no l) (no m) =
-        let e : i ≡ c - data_cells p = omega arith in
-        let here : at (set (replicate 12 0) (c - data_cells p) 1) (c - data_cells p) ≡ 1 =
-        get_or-set_same (replicate 12 0) (c - data_cells p) 1 0 (omega arith) in
-        rw (e, here) (column_unit p (c - data_cells p) c h (omega arith))
 
 pub multiple_none : (M : ℕ) (f : ℕ → ℕ) (i : ℕ) → at (replicate 12 0) i ≡ times_of M f 0 i
 multiple_none M f i = zeros-at 12 i ∙ sym (ap (λ (v : ℕ). v % M) (zero-mul (f i)) ∙ zero-mod M)

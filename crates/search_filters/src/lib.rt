@@ -17,7 +17,8 @@ fn less_modulo(m: u8, a: u8, e: u8) -> u8
     if a < e { a + (m - e) } else { a - e }
 }
 
-// What remains of a syndrome once the magnitude of a cell with this column is one more.
+// What remains of a syndrome once the magnitude of a cell with this column is one more. This and `raised` are loops: of the calls that
+// `array::from_fn` makes, a proof is told each with some state of its closure, and did not close.
 pub fn lowered(m: u8, rest: [u8; 12], column: [u8; 12]) -> [u8; 12]
     requires { (m ≤ 64) × ((i : ℕ) → at rest i < m) × ((i : ℕ) → at column i < m) }
     ensures { (i : ℕ) → at result i ≡ less_modulo m (at rest i) (at column i) }

@@ -1,6 +1,6 @@
 -- Decoding plane after plane.
 use Rattle.std.proofs.Common.{◌≡◌, sym, ap, ◌∙◌, Some, None, List, [], ◌∷◌, ℕ, zero, suc, ◌+◌, ◌*◌, ◌-◌, ◌%◌, ◌<◌, ◌≤◌}
-use Rattle.std.proofs.Common.{length, take, drop, arith, get_or, cond, not, ◌==◌, count_by, zip}
+use Rattle.std.proofs.Common.{length, take, drop, arith, get_or, cond, not, ◌==◌, map, sum, zip}
 use Rattle.std.proofs.lemmas.List.Sums.{sum_by-cons}
 use Rattle.std.specs.Prelude as std
 use Rattle.std.proofs.Math.Option.{Option, none, some}
@@ -29,12 +29,12 @@ use Rattle.stack_opening.specs.declared.Stack.{Stack}
 use Rattle.stack_opening.specs.declared.plane.Plane.{Plane}
 use Rattle.stack_operations.proofs.Planes.{From, value, later, are_planes, next_plane, from_stack, plane_cells, is_plane}
 
--- the cells that differ, counted among pairs
-pub distance_is : (x y : List ℕ) → count_by (λ p. not (p.0 == p.1)) (zip x y) ≡ distance x y
+-- the cells that differ, pair by pair
+pub distance_is : (x y : List ℕ) → sum (map (λ p. cond (not (p.0 == p.1)) 1 0) (zip x y)) ≡ distance x y
 distance_is [] y = refl
 distance_is (a ∷ x) [] = refl
 distance_is (a ∷ x) (b ∷ y) =
-    sum_by-cons (λ (p : ℕ × ℕ). cond (not (p.0 == p.1)) 1 0) (a, b) (zip x y) ∙ grind (arith, distance_is x y)
+    sum_by-cons (λ (k : ℕ). k) (cond (not (a == b)) 1 0) (map (λ p. cond (not (p.0 == p.1)) 1 0) (zip x y)) ∙ grind (arith, distance_is x y)
 
 -- levels lowered cell by cell
 module _ (q w : ℕ) (x : List ℕ) (k : Risen) where

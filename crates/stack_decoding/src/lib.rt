@@ -1,7 +1,7 @@
 // Decoding a stack's received word, plane after plane. The output buffer is written only after all planes are decoded.
 #![tactic(auto)]
 
-ghost use Rattle.std.specs.Prelude.{◌≡◌, true, ℕ, ◌+◌, ◌*◌, ◌-◌, ◌%◌, ◌<◌, ◌≤◌, length, not, ◌==◌, count_by, zip};
+ghost use Rattle.std.specs.Prelude.{◌≡◌, true, ℕ, ◌+◌, ◌*◌, ◌-◌, ◌%◌, ◌<◌, ◌≤◌, length, not, ◌==◌, cond, map, sum, zip};
 ghost use Rattle.definitions.specs.Words.{all_below};
 ghost use Rattle.definitions.specs.Answers.{result as left_by};
 ghost use Rattle.definitions.specs.Stacks.{digits};
@@ -54,10 +54,10 @@ fn lower(levels: &mut [u8], k: Risen, w: usize, q: usize)
 
 // The cells in which two words differ.
 fn distance(x: &[u8], y: &[u8]) -> usize
-    requires { length x.now ≡ length y.now }
-    ensures { result ≡ count_by (λ p. not (p.0 == p.1)) (zip x.now y.now) }
+    requires { (length x.now ≡ length y.now) × (length x.now ≤ 64) }
+    ensures { result ≡ sum (map (λ p. cond (not (p.0 == p.1)) 1 0) (zip x.now y.now)) }
 {
-    x.iter().zip(y).filter(|(a, b)| a != b).count()
+    x.iter().zip(y).map(|(a, b)| usize::from(a != b)).sum()
 }
 
 // From plane 0 upward the first pattern with the syndrome of the present levels' digits lowers them; the count is of the cells that

@@ -10,8 +10,8 @@ use Rattle.definitions.specs.Codes.{Code}
 use Rattle.definitions.specs.Stacks.{Stack, product}
 use Rattle.definitions.specs.StackOperations.{open_plane, open_planes, stack_in_range, open_stack}
 use Rattle.answers.specs.declared.Refusal.{Refusal}
-use Rattle.answers.specs.declared.Refusal.TheVariants.{NoPatternInPlane}
 use Rattle.answers.specs.Answering.{refused_as, answer_with}
+use Rattle.answers.proofs.Refusals.{after_refused}
 use Rattle.stack_theorems.proofs.Opened.{plane_opened}
 
 itself : (a : Answer (List Code)) → a ≡ (after a λ ps. given ([] ++ ps))
@@ -25,10 +25,6 @@ collected : (qs : List Code) (p : Code) (a : Answer (List Code))
 collected qs p (given ps) = ap given (sym (append_assoc qs (p ∷ []) ps))
 collected qs p (refused k) = refl
 collected qs p (refused_at k j) = refl
-
--- a refusal passes every step
-pub after_refused : {A B : Type 0} (x : Refusal) (f : A → Answer B) → after (refused_as x) f ≡ refused_as x
-after_refused {A} {B} x f = elim x as (λ y. after (refused_as {A = A} y) f ≡ refused_as {A = B} y) [ NoPatternInPlane j ↦ refl | _ ↦ refl ]
 
 -- what `?` passes on
 pub passed_on : {A B : Type 0} (f : A → B) (r : Result A Refusal) (x : Refusal) → IsErr r × IsErrAnd r (λ y. y ≡ x) → answer_with f r ≡ refused_as x

@@ -1,5 +1,3 @@
--- words cell by cell
-pub mod Cells
 -- the test for a codeword
 pub mod Messages
 -- planes one after another

@@ -1,4 +1,4 @@
-use Rattle.std.proofs.Common.{◌≡◌, false, ℕ, ◌<◌, length, get_or}
+use Rattle.std.proofs.Common.{◌≡◌, false, ℕ, ◌<◌, length}
 use lib.Dec.{ltb}
 use Rattle.definitions.specs.Words.{at}
 use Rattle.candidate_patterns.specs.Candidates.{word_of, rise_at}

@@ -1,6 +1,6 @@
 use Rattle.std.proofs.Common.{rules}
 use Rattle.definitions.specs.PackingOperations.{pack_code}
-use Rattle.packing.specs.Operations.{packing}
+use Rattle.packing.specs.Packing.{packing}
 use Rattle.packing.proofs.Clauses.{packed_as}
 use Rattle.packing.proofs.pack.Goals as goal
 

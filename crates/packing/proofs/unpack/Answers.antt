@@ -1,6 +1,6 @@
 use Rattle.std.proofs.Common.{rules}
 use Rattle.definitions.specs.PackingOperations.{unpack_code}
-use Rattle.packing.specs.Operations.{unpacking}
+use Rattle.packing.specs.Packing.{unpacking}
 use Rattle.packing.proofs.Clauses.{unpacked_as}
 use Rattle.packing.proofs.unpack.Goals as goal
 

@@ -57,7 +57,9 @@ choose_cell-loop-cell-preserved t c =
           let (one, nothing) = c.cannot_end_at.ensures w.if-cannot_end_at.true in
           tried_as _ _ w.tried-is ∙ cell_ruled a k.risen c.args.rest.now k.left one c.requires.reached.remains l.cell chosen h nothing l.tried
       | choose_cell-else-cannot_end_at+in_ok-tried w ↦
-          tried_as _ _ w.tried-is ∙ sym (ap (sought_as a.code.n) (w.branch-tried.ensures ∙ ap control_flow_from_branch w.in_ok-tried.is)) ∙ w.choose_magnitude.ensures
+          tried_as _ _ w.tried-is
+          ∙ sym (ap (sought_as a.code.n) (w.branch-tried.ensures ∙ ap control_flow_from_branch w.in_ok-tried.is))
+          ∙ w.choose_magnitude.ensures
     ] in
     record {
       chosen = chosen-next k.risen k.left l.cell chosen;

@@ -1,6 +1,6 @@
 use Rattle.std.proofs.Common.{◌≡◌, ℕ, ◌+◌, ◌∙◌, refl, arith}
 use Rattle.definitions.specs.Words.{at}
-use Rattle.search_filters.specs.Filters.{times_of, hash_of}
+use Rattle.search_filters.specs.Filters.{times_of}
 use Rattle.search_filters.proofs.Columns.{multiple_more}
 use Rattle.search_filters.proofs.Marks.{hash_same, marked_more}
 use Rattle.search_filters.proofs.mark.Goals as goal

@@ -1,4 +1,4 @@
-use Rattle.std.proofs.Common.{◌∙◌, [], take, arith}
+use Rattle.std.proofs.Common.{◌∙◌, take, arith}
 use lib.Seq.{length-take-le}
 use Rattle.stack_operations.proofs.Planes.{plane_cells}
 use Rattle.stack_decoding.proofs.Decoding.{distance_is, value_most, nothing_found, magnitudes_fit, decoded_all, refused_in, given_by}

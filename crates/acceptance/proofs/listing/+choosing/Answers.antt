@@ -14,9 +14,6 @@ pub choose_cell-returns-then-left-eq0 : goal.choose_cell-returns-then-left-eq0
 choose_cell-returns-then-left-eq0 t c =
     store_as _ _ _ _ (done (code c.args.columns.now.code) c.args.left c.args.cell c.args.s.now c.if-left-eq0.true) c.store.ensures
 
-pub choose_cell-loop-c-init : goal.choose_cell-loop-c-init
-choose_cell-loop-c-init t c = none_yet _ _
-
 pub choose_cell-choose_magnitude-requires : goal.choose_cell-choose_magnitude-requires
 choose_cell-choose_magnitude-requires t c =
     let one : 1 ≤ c.args.left = omega arith in (

@@ -1,5 +1,5 @@
 use Rattle.std.proofs.Common.{◌≡◌}
-use Rattle.packing.specs.Packing.{Pulling, first}
+use Rattle.packing.specs.Pulling.{Pulling, first}
 use Rattle.packing.proofs.pulled.Pulled.pull.Given as goal
 
 abbrev pub invariant-loop : goal.invariant-loop

@@ -10,7 +10,7 @@ overflow_add-result c =
 pub returns : goal.returns
 returns c =
     let fits = c.args.symbols.now.below c.args.self.cells c.requires.room.0 in (
-      pulled c.args.symbols.now c.args.self c.requires.pulling c.requires.room.0 fits c.width_at.ensures.0 c.raised.ensures.0,
-      same_first c.args.symbols.now c.args.self c.requires.pulling c.requires.room.0 fits c.width_at.ensures.0 c.raised.ensures.0,
+      pulled c.args.symbols.now c.args.self c.requires.pulling c.requires.room.0 fits c.width_at.ensures c.raised.ensures.0,
+      same_first c.args.symbols.now c.args.self c.requires.pulling c.requires.room.0 fits c.width_at.ensures c.raised.ensures.0,
       refl,
     )

@@ -1,6 +1,6 @@
 use Rattle.std.proofs.Common.{◌≡◌, ℕ, ◌<◌, length}
 use Rattle.definitions.specs.Words.{at}
-use Rattle.packing.specs.Packing.{Pulling}
+use Rattle.packing.specs.Pulling.{Pulling}
 use Rattle.packing.proofs.Pulling.{bytes_made, Placed}
 use Rattle.packing.proofs.pulled.Symbols.store.Given as goal
 
