@@ -19,17 +19,6 @@ use Rattle.directory.specs.Entries.{entry_as}
 use Rattle.directory.specs.declared.Entry.{Entry}
 
 module _ (x : List ℕ) (k : ℕ) where
-  pub number_0 : k < 1 → is_row x k ≡ false
-  number_0 h = let e = lt-leb 1 k h in rw e
-
-  pub above-count : 1 ≤ k → at x 0 < k → is_row x k ≡ false
-  above-count a h = let d = le-leb 1 k a in let e = lt-leb k (at x 0) h in rw (d, e)
-
-  pub row_by_kind : 1 ≤ k → k ≤ at x 0 → (e : Entry) → entry_as e ≡ entry_at x k → is_row x k ≡ eqb e.kind 3
-  row_by_kind a h e is =
-      (let c = le-leb 1 k a in let d = le-leb k (at x 0) h in rw (c, d))
-      ∙ ap (λ (u : images.Entry). eqb u.kind 3) (sym is)
-
   -- what the reference names decides how a row is decoded
   module _ (out : List ℕ) where
     pub by_plan : (entry_at x (reference_of x k)).kind ≡ 1 → decode_row x k out ≡ decode_code (body_of x (reference_of x k)) (body_of x k) out

@@ -3,6 +3,8 @@
 
 ghost use Rattle.std.specs.Prelude.{◌≡◌, true, false, ◌≤◌, MatchOption};
 ghost use Rattle.definitions.specs.Words.{at};
+ghost use Rattle.definitions.specs.CodeOperations.{decode_code};
+ghost use Rattle.directory.specs.Entries.{InImage};
 ghost use Rattle.definitions.specs.Images.{body_of, reference_of, is_row, decode_row, recorded, read_row};
 ghost use Rattle.definitions.specs.Demands.{of_code, of_stack};
 ghost use Rattle.answers.specs.Answering.{outcome_as, answer_with, leaves};
@@ -26,6 +28,16 @@ pub struct Row<'a> {
     pub ghost row: { is_row image.bytes.now number ≡ true },
 }
 
+// Decoding by a plan, without how many patterns were tried.
+fn decode_by_plan(body: &[u8], word: &[u8], out: &mut [u8]) -> Outcome
+    ensures { leaves (outcome_as result) out.new ≡ decode_code body.now word.now out.old }
+{
+    match codec::decode(body, word, out) {
+        Ok(decoded) => Outcome::Count(decoded.count),
+        Err(why) => Outcome::Refused(why),
+    }
+}
+
 impl<'a> Row<'a> {
     ghost use Rattle.row_reading.specs.Records.{record_as};
 
@@ -46,14 +58,20 @@ impl<'a> Row<'a> {
         }
     }
 
+    // The number of the entry that its reference names, a plan or a stack.
+    fn reference(&self) -> usize
+        ensures is { result ≡ reference_of self.now.image.bytes.now self.now.number }
+        ensures in_image { InImage self.now.image.bytes.now result × InImage self.now.image.bytes.now self.now.number }
+    {
+        directory::entry_at(self.image.bytes, self.number).reference
+    }
+
     // The cells of the plan or stack that the reference names: the first byte of its body.
     pub fn cells(&self) -> usize
         ensures { (result ≡ at (body_of self.now.image.bytes.now (reference_of self.now.image.bytes.now self.now.number)) 0)
             × (result ≤ 64) }
     {
-        let image = self.image.bytes;
-        let reference = directory::entry_at(image, self.number).reference;
-        usize::from(directory::body(image, reference)[0])
+        usize::from(directory::body(self.image.bytes, self.reference())[0])
     }
 
     // The row decoded by the plan or stack that its reference names.
@@ -61,11 +79,11 @@ impl<'a> Row<'a> {
         ensures { leaves (outcome_as result) out.new ≡ decode_row self.now.image.bytes.now self.now.number out.old }
     {
         let image = self.image.bytes;
-        let reference = directory::entry_at(image, self.number).reference;
+        let reference = self.reference();
         let body = directory::body(image, reference);
         let word = directory::body(image, self.number);
         match Kind::of(directory::entry_at(image, reference).kind) {
-            Some(Kind::Plan) => Outcome::from(codec::decode(body, word, out).map(|decoded| decoded.count)),
+            Some(Kind::Plan) => decode_by_plan(body, word, out),
             Some(Kind::Stack) => Outcome::from(codec::decode_stack(body, word, out)),
             // not in an image that passed its check
             Some(Kind::Row) | None => Outcome::Refused(Refusal::OutOfRange),
