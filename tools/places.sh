@@ -6,7 +6,7 @@ cd "$(dirname "$0")/.."
 commit=${1:-HEAD}
 show=${2:-}
 
-lines() { git grep -nE "$@" "$commit" -- 'crates/*/src/*.rt' | sed 's/^[^:]*://'; }
+lines() { { git grep -nE "$@" "$commit" -- 'crates/*/src/*.rt' || true; } | sed 's/^[^:]*://'; }
 
 count() {
     local name=$1

@@ -64,37 +64,9 @@ module _ (b y out : List ℕ) where
       let r = stack_opened b S opens in
       small S.n (levels S) k (decode_stack b y out).out y r.n-high r.q-high w.0.long w.0.bounded d
 
--- the first byte of a description is its n
-pub record First (b : List ℕ) : Type 0 where
-  pub there : 1 ≤ length b
-  pub high : at b 0 ≤ 64
-
-code-first : (b : List ℕ) → test_code b ≡ given tt → First b
-unfolding test_code
-code-first b e =
-    let (p, opens, _) = after-given (open_code b) _ tt e in
-    let (s, h) = opened b p opens in
-    let n : at b 0 ≡ p.n = ap (λ (u : Code). u.n) s in
-    record { there = omega (arith, h.size); high = omega (arith, h.range.n-high) }
-
-stack_first : (b : List ℕ) → test_stack b ≡ given tt → First b
-unfolding open_stack test_stack
-stack_first b e =
-    let (S, opens, _) = after-given (open_stack b) _ tt e in
-    let h = stack_opened b S opens in
-    let (l, _) = not_refused 1 (ltb (length b) 2) _ S opens in
-    record { there = omega (arith, ltb-false (length b) 2 l); high = omega (arith, h.n_is, h.n-high) }
-
 module _ (x : List ℕ) (k : ℕ) (c : CheckedRow x k) where
   named : Named x (reference_of x k)
   named = (row_of x c.checked k c.row).named
-
-  pub row_first : First (body_of x (reference_of x k))
-  row_first = step named
-    where
-      step : Named x (reference_of x k) → First (body_of x (reference_of x k))
-      step (plan e t) = code-first (body_of x (reference_of x k)) t
-      step (stack e t) = stack_first (body_of x (reference_of x k)) t
 
   pub row_printable : (out : List ℕ) → Printable (decode_row x k out).answer (decode_row x k out).out
   row_printable out = step named

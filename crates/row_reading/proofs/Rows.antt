@@ -7,7 +7,7 @@ use native.Mathlib.Omega.{arith}
 use lib.Dec.{eqb}
 use borrow.Author.Tests.{le-leb, lt-leb, eq-eqb, ne_eqb}
 use Rattle.definitions.specs.Words.{at}
-use Rattle.definitions.specs.Answers.{given, refused}
+use Rattle.definitions.specs.Answers.{given, refused, Result}
 use Rattle.definitions.specs.CodeOperations.{decode_code}
 use Rattle.definitions.specs.StackOperations.{decode_stack}
 use Rattle.definitions.specs.Images as images
@@ -17,6 +17,7 @@ use Rattle.answers.specs.declared.Refusal.{Refusal}
 use Rattle.answers.proofs.Refusals.{after_refused, result_refused}
 use Rattle.directory.specs.Entries.{entry_as}
 use Rattle.directory.specs.declared.Entry.{Entry}
+use Rattle.image.proofs.Checked.{Named, plan, stack, row_of}
 
 module _ (x : List ℕ) (k : ℕ) where
   -- what the reference names decides how a row is decoded
@@ -43,3 +44,24 @@ module _ (x : List ℕ) (k : ℕ) where
           → (r, after) ≡ recorded k (decode_row x k out) → leaves (given r) after ≡ read_row x k out
       unfolding read_row
       row_read e r after h = rw (checked, e) (ap (λ (u : RowRecord × List ℕ). leaves (given u.0) u.1) h)
+
+-- a row of an image that passed its check, whose reference is r
+module _ (x : List ℕ) (k r : ℕ) (is : r ≡ reference_of x k) (e : Entry) (read : entry_as e ≡ entry_at x r) where
+  kind_is : (entry_at x (reference_of x k)).kind ≡ e.kind
+  kind_is = ap (λ (i : ℕ). (entry_at x i).kind) (sym is) ∙ ap (λ (u : images.Entry). u.kind) (sym read)
+
+  -- what decoding the two bodies leaves
+  module _ (body word out : List ℕ) (b : body ≡ body_of x r) (w : word ≡ body_of x k) {left : Result ℕ} where
+    pub plan_decoded : e.kind ≡ 1 → left ≡ decode_code body word out → left ≡ decode_row x k out
+    plan_decoded h d = d ∙ rw (b, w, is) (sym (by_plan x k out (kind_is ∙ h)))
+
+    pub stack_decoded : e.kind ≡ 2 → left ≡ decode_stack body word out → left ≡ decode_row x k out
+    stack_decoded h d = d ∙ rw (b, w, is) (sym (by_stack x k out (kind_is ∙ h)))
+
+  -- it is a plan or a stack
+  pub never : (checked : check_image x ≡ given tt) → is_row x k ≡ true → (e.kind ≡ 1 → ⊥) → (e.kind ≡ 2 → ⊥) → ⊥
+  never checked row no_plan no_stack = step (row_of x checked k row).named
+    where
+      step : Named x (reference_of x k) → ⊥
+      step (plan h t) = no_plan (sym kind_is ∙ h)
+      step (stack h t) = no_stack (sym kind_is ∙ h)
