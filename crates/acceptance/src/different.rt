@@ -21,7 +21,7 @@ pub fn all_different(keys: &[u128]) -> bool
     true
 }
 
-// The slot of a key in the tree of the first n keys.
+// The slot of a key in the tree of the first n keys. A `while`: how many steps the walk takes is not known before it ends.
 fn slot_of(keys: &[u128], slots: &[u16; 12288], n: usize, key: u128) -> usize
     requires { (n ≤ 4096) × (n ≤ length keys.now) × Tree keys.now slots.now n }
     ensures { SlotOf keys.now slots.now n key result }

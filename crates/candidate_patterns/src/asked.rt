@@ -8,7 +8,8 @@ ghost use Rattle.opening.specs.Viewed.{code as the_code};
 
 use opening::Code;
 
-// A pattern of this code with the syndrome s and, where a codeword is asked for, that leaves one of the word.
+// A pattern of this code with the syndrome s and, where a codeword is asked for, that leaves one of the word. The flag stands beside the word,
+// not an Option in its place: the facts below speak of the word, and would each have to match on it.
 #[derive(Clone, Copy)]
 pub struct Asked<'a> {
     pub code: Code<'a>,

@@ -1,4 +1,5 @@
-// The C boundary: each function of fingerkerf under its own name. A slice is a pointer, then a length; null with length 0 is taken.
+// The C boundary: each function of fingerkerf under its own name. A slice is a pointer, then a length; null with length 0 is taken. Each stands
+// here again, since C needs an export of its name, and a crate is a library or a static library, not both.
 #![tactic(auto)]
 
 ghost use Rattle.std.specs.Prelude.{◌≡◌, length};

@@ -27,7 +27,7 @@ pub struct Size {
     pub size: usize,
 }
 
-// The number of a message as a value, or a refusal's number.
+// The number of a message as a value, or a refusal's number. A type beside Size: the C header has both.
 #[repr(C)]
 #[derive(Clone, Copy)]
 pub struct Value {
