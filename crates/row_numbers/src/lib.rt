@@ -54,8 +54,11 @@ impl From<Result<Record, Refusal>> for RowNumbers {
 pub fn row_cells(image: &[u8], entry: usize) -> Result<usize, Refusal>
     ensures { answer_of result ≡ row_cells image.now entry }
 {
-    let checked = Image::check(image)?;
-    let Some(row) = Row::of(checked, entry) else {
+    let checked = Image::check(image);
+    let Ok(image) = checked else {
+        return Err(checked.unwrap_err());
+    };
+    let Some(row) = Row::of(image, entry) else {
         return Err(Refusal::OutOfRange);
     };
     Ok(row.cells())

@@ -1,5 +1,5 @@
 -- Which entries are rows, and what reading one answers.
-use mathlib.Core.Path.{◌≡◌, sym, ap, ◌∙◌}
+use mathlib.Core.Path.{◌≡◌, sym, ap, ap₂, subst, ◌∙◌}
 use mathlib.Core.Bool.{true, false}
 use mathlib.Core.List.{List}
 use Prim.Native.Nat.{ℕ, ◌≤◌, ◌<◌}
@@ -8,7 +8,7 @@ use lib.Dec.{eqb}
 use borrow.Author.Tests.{le-leb, lt-leb, eq-eqb, ne_eqb}
 use Rattle.definitions.specs.Words.{at}
 use Rattle.definitions.specs.Answers.{given, refused, Result}
-use Rattle.definitions.specs.CodeOperations.{decode_code}
+use Rattle.definitions.specs.CodeOperations.{between, decode_code}
 use Rattle.definitions.specs.StackOperations.{decode_stack}
 use Rattle.definitions.specs.Images as images
 use Rattle.definitions.specs.Images.{entry_at, body_of, reference_of, RowRecord, is_row, check_image, decode_row, recorded, read_row}
@@ -30,20 +30,26 @@ module _ (x : List ℕ) (k : ℕ) where
     unfolding decode_row
     by_stack e = let n = ne_eqb (entry_at x (reference_of x k)).kind 1 (λ i. omega arith) in rw n
 
-    pub image_refused : (y : Refusal) → check_image x ≡ refused_as y → leaves (refused_as y) out ≡ read_row x k out
+    pub image_refused : (y : Refusal) → refused_as y ≡ check_image x → leaves (refused_as y) out ≡ read_row x k out
     unfolding read_row
-    image_refused y e = rw (e, after_refused y, result_refused y out)
+    image_refused y e = rw (← e, after_refused y, result_refused y out)
 
-    module _ (checked : check_image x ≡ given tt) where
-      pub no_row : is_row x k ≡ false → leaves (refused 2) out ≡ read_row x k out
-      unfolding read_row
-      no_row e = rw (checked, e)
+    pub no_row : given tt ≡ check_image x → is_row x k ≡ false → leaves (refused 2) out ≡ read_row x k out
+    unfolding read_row
+    no_row checked e = rw (← checked, e)
 
-      pub row_read :
-          is_row x k ≡ true → (r : RowRecord) (after : List ℕ)
-          → (r, after) ≡ recorded k (decode_row x k out) → leaves (given r) after ≡ read_row x k out
-      unfolding read_row
-      row_read e r after h = rw (checked, e) (ap (λ (u : RowRecord × List ℕ). leaves (given u.0) u.1) h)
+    pub row_read :
+        check_image x ≡ given tt → is_row x k ≡ true → (r : RowRecord) (after : List ℕ)
+        → (r, after) ≡ recorded k (decode_row x k out) → leaves (given r) after ≡ read_row x k out
+    unfolding read_row
+    row_read checked e r after h = rw (checked, e) (ap (λ (u : RowRecord × List ℕ). leaves (given u.0) u.1) h)
+
+    -- the same, of a row n of an image with these bytes
+    pub read_of :
+        (bytes : List ℕ) (n : ℕ) → bytes ≡ x → n ≡ k → given tt ≡ check_image x → is_row bytes n ≡ true → (r : RowRecord) (after : List ℕ)
+        → (r, after) ≡ recorded n (decode_row bytes n out) → leaves (given r) after ≡ read_row x k out
+    read_of bytes n same number checked row r after h =
+        row_read (sym checked) (sym (ap₂ is_row same number) ∙ row) r after (h ∙ ap₂ (λ b m. recorded m (decode_row b m out)) same number)
 
 -- a row of an image that passed its check, whose reference is r
 module _ (x : List ℕ) (k r : ℕ) (is : r ≡ reference_of x k) (e : Entry) (read : entry_as e ≡ entry_at x r) where
@@ -58,10 +64,19 @@ module _ (x : List ℕ) (k r : ℕ) (is : r ≡ reference_of x k) (e : Entry) (r
     pub stack_decoded : e.kind ≡ 2 → left ≡ decode_stack body word out → left ≡ decode_row x k out
     stack_decoded h d = d ∙ rw (b, w, is) (sym (by_stack x k out (kind_is ∙ h)))
 
-  -- it is a plan or a stack
+  -- its kind is a plan's or a stack's
   pub never : (checked : check_image x ≡ given tt) → is_row x k ≡ true → (e.kind ≡ 1 → ⊥) → (e.kind ≡ 2 → ⊥) → ⊥
   never checked row no_plan no_stack = step (row_of x checked k row).named
     where
       step : Named x (reference_of x k) → ⊥
       step (plan h t) = no_plan (sym kind_is ∙ h)
       step (stack h t) = no_stack (sym kind_is ∙ h)
+
+  pub none : (checked : check_image x ≡ given tt) → is_row x k ≡ true → between 1 e.kind 3 ≡ false → ⊥
+  none checked row outside = never checked row (λ h. other (subst Outside h outside)) (λ h. other (subst Outside h outside))
+    where
+      Outside : ℕ → Type 0
+      Outside n = between 1 n 3 ≡ false
+
+      other : true ≡ false → ⊥
+      other h = let z : ◌≡◌ {A = ℕ} 0 1 = cc in absurd (omega arith)

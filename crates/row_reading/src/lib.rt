@@ -86,7 +86,8 @@ impl<'a> Row<'a> {
             Some(Kind::Plan) => decode_by_plan(body, word, out),
             Some(Kind::Stack) => Outcome::from(codec::decode_stack(body, word, out)),
             // not in an image that passed its check
-            Some(Kind::Row) | None => Outcome::Refused(Refusal::OutOfRange),
+            Some(Kind::Row) => Outcome::Refused(Refusal::OutOfRange),
+            None => Outcome::Refused(Refusal::OutOfRange),
         }
     }
 
@@ -114,8 +115,11 @@ pub fn read_row(image: &[u8], entry: usize, out: &mut [u8]) -> Result<Record, Re
     ensures stack_decides { WhereStackRow image.now entry out.old
         (λ S. RecordDecides (of_stack S) (body_of image.now entry) entry (answer_with record_as result) out.new) }
 {
-    let checked = Image::check(image)?;
-    let Some(row) = Row::of(checked, entry) else {
+    let checked = Image::check(image);
+    let Ok(image) = checked else {
+        return Err(checked.unwrap_err());
+    };
+    let Some(row) = Row::of(image, entry) else {
         return Err(Refusal::OutOfRange);
     };
     Ok(row.read(out))
