@@ -1,23 +1,21 @@
 -- The numbers of a line are small: what is given back has at most 64 cells, and its levels are below 64.
-use mathlib.Core.Path.{◌≡◌, refl, sym, ap, subst}
+use mathlib.Core.Path.{◌≡◌, refl, sym, subst}
 use mathlib.Core.Bool.{Bool, true, false, cond}
 use mathlib.Core.List.{List, [], ◌∷◌}
 use Prim.Native.Nat.{ℕ, suc, ◌+◌, ◌≤◌, ◌<◌}
 use native.Mathlib.Omega.{arith}
-use lib.Dec.{eqb, ltb}
+use lib.Dec.{eqb}
 use lib.ListN.{length}
-use borrow.Author.Tests.{ltb-false}
-use Rattle.definitions.specs.Words.{at, distance, EachCell}
+use Rattle.definitions.specs.Words.{distance, EachCell}
 use Rattle.definitions.specs.Answers.{Answer, given, refused, refused_at, Result}
-use Rattle.definitions.specs.Codes.{Code}
 use Rattle.definitions.specs.Decoding.{decode}
-use Rattle.definitions.specs.CodeOperations.{open_code, test_code, decode_code}
+use Rattle.definitions.specs.CodeOperations.{open_code, decode_code}
 use Rattle.definitions.specs.Stacks.{levels}
 use Rattle.definitions.specs.StackDecoding.{decode_word}
-use Rattle.definitions.specs.StackOperations.{open_stack, test_stack, decode_stack}
+use Rattle.definitions.specs.StackOperations.{open_stack, decode_stack}
 use Rattle.definitions.specs.Images.{body_of, reference_of, decode_row}
 use Rattle.word_laws.proofs.Cells.{each_map}
-use Rattle.code_theorems.proofs.Refusals.{not_refused, after-given, given_read}
+use Rattle.code_theorems.proofs.Refusals.{given_read}
 use Rattle.code_theorems.proofs.Opened.{opened}
 use Rattle.code_theorems.proofs.Demands.{decode_some}
 use Rattle.stack_theorems.proofs.Opened.{stack_opened}

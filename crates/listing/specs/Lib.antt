@@ -1,2 +1,2 @@
--- what the functions that write lines suppose and ensure
+-- what the functions that write lines ensure
 pub mod Lines

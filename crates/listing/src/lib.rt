@@ -1,11 +1,12 @@
 // What cartlist prints for an image, written into a buffer. The image is checked once, and then its rows are read, however many.
 #![tactic(auto)]
 
-ghost use Rattle.std.specs.Prelude.{◌≡◌, ◌×◌, ◌≤◌, length, IfOk};
+ghost use Rattle.std.specs.Prelude.{◌≡◌, ◌≤◌, length, IfOk};
+ghost use Rattle.definitions.specs.Words.{at};
 ghost use Rattle.definitions.specs.Images.{entry_numbers};
-ghost use Rattle.definitions.specs.CartridgeLists.{line_of, row_lines, list_image};
+ghost use Rattle.definitions.specs.CartridgeLists.{line_of, entry_line, row_lines, lines_of, list_image};
 ghost use Rattle.answers.specs.Answering.{answer_of, leaves};
-ghost use Rattle.row_lines.specs.Writing.{Adds, Room};
+ghost use Rattle.row_lines.specs.Writing.{Puts, Adds, Room};
 ghost use Rattle.listing.specs.Lines.{AddsLine};
 
 use answers::Refusal;
@@ -24,20 +25,52 @@ fn put_row(row: Row, lines: &mut Lines)
     lines.row(record.entry, record.outcome, word);
 }
 
+// The line of entry k, if it is a row's.
+fn put_entry(image: Image, k: usize, lines: &mut Lines)
+    requires entry { (1 ≤ k) × (k ≤ at image.bytes.now 0) }
+    requires room { Room lines.old 256 }
+    ensures { AddsLine lines.old (entry_line image.entry.bytes.now k) lines.new }
+{
+    if let Some(row) = Row::of(image, k) {
+        put_row(row, lines);
+    }
+}
+
 // The lines of all rows.
 fn put_rows(image: Image, lines: &mut Lines)
     requires { Room lines.old 8192 }
     ensures { Adds lines.old (row_lines image.entry.bytes.now (entry_numbers image.entry.bytes.now)) lines.new }
 {
     for k in 1..=image.entry_count() {
-        if let Some(row) = Row::of(image, k) {
-            put_row(row, lines);
-        }
+        put_entry(image, k, lines);
     }
+}
+
+// The lines of an image, or the one line that says why it is refused.
+fn put_lines(image: &[u8], lines: &mut Lines)
+    requires { Room lines.old 8192 }
+    ensures { Adds lines.old (lines_of image.now) lines.new }
+{
+    match Image::check(image) {
+        Ok(image) => put_rows(image, lines),
+        Err(why) => lines.refused_image(why),
+    }
+}
+
+// The same at the start of a buffer; how many bytes they have.
+fn put_first(image: &[u8], out: &mut [u8]) -> usize
+    requires { length out.old ≡ 8192 }
+    ensures lines { Puts out.old 0 (lines_of image.now) result out.new }
+    ensures within { (result ≤ 8192) × (length out.new ≡ 8192) }
+{
+    let mut lines = Lines { out, place: 0 };
+    put_lines(image, &mut lines);
+    lines.place
 }
 
 // The lines of an image, at the start of a buffer of 8,192 bytes; the answer is how many bytes they have. A buffer of another length is
 // refused 8.
+#[tactic(auto, using(crate::proofs::AllLines::wrong_buffer))]
 pub fn list(image: &[u8], out: &mut [u8]) -> Result<usize, Refusal>
     ensures result { leaves (answer_of result) out.new ≡ list_image image.now out.old }
     ensures within { IfOk result (λ k. (k ≤ 8192) × (k ≤ length out.new)) }
@@ -45,13 +78,5 @@ pub fn list(image: &[u8], out: &mut [u8]) -> Result<usize, Refusal>
     if out.len() != 8192 {
         return Err(Refusal::WrongBuffer);
     }
-    let mut lines = Lines {
-        out: &mut out[..],
-        place: 0,
-    };
-    match Image::check(image) {
-        Ok(image) => put_rows(image, &mut lines),
-        Err(why) => lines.refused_image(why),
-    }
-    Ok(lines.place)
+    Ok(put_first(image, out))
 }

@@ -1,4 +1,2 @@
--- the numbers of a plain refusal
-pub mod Numbers
 -- what the distance decides of a record it decides of its numbers
 pub mod Deciding

@@ -2,8 +2,6 @@
 use Rattle.std.specs.Prelude.{◌≡◌, ℕ, zero, suc}
 use Rattle.definitions.specs.Answers.{Answer, given, refused, refused_at}
 use Rattle.definitions.specs.Images.{RowRecord}
-use Rattle.answers.specs.Answering.{outcome_as}
-use Rattle.answers.specs.declared.Outcome.{Outcome}
 use Rattle.numbered_answers.specs.Numbers.{number_of, count_of, answer_plane, count_by}
 use Rattle.row_numbers.specs.declared.RowNumbers.{RowNumbers}
 
@@ -20,10 +18,6 @@ pub record RowNumbered (a : Answer RowRecord) (r : RowNumbers) : Type 0 where
   pub refusal_is : r.refusal ≡ part_of (λ x. number_of x.outcome) a
   pub count_is : r.count ≡ part_of (λ x. count_of x.outcome) a
   pub plane_is : r.plane ≡ part_of (λ x. answer_plane x.outcome) a
-
--- a record as an answer
-abbrev pub record_answer : ℕ → Outcome → Answer RowRecord
-record_answer entry o = given (record { entry = entry; outcome = outcome_as o })
 
 -- the answer that the numbers stand for
 abbrev pub row_by : ℕ → RowNumbers → Answer RowRecord

@@ -2,11 +2,9 @@
 use mathlib.Core.Path.{◌≡◌, sym, ap, ap₂, subst, ◌∙◌}
 use mathlib.Core.Bool.{true, false}
 use mathlib.Core.List.{List}
-use Prim.Native.Nat.{ℕ, ◌≤◌, ◌<◌}
+use Prim.Native.Nat.{ℕ}
 use native.Mathlib.Omega.{arith}
-use lib.Dec.{eqb}
-use borrow.Author.Tests.{le-leb, lt-leb, eq-eqb, ne_eqb}
-use Rattle.definitions.specs.Words.{at}
+use borrow.Author.Tests.{eq-eqb, ne_eqb}
 use Rattle.definitions.specs.Answers.{given, refused, Result}
 use Rattle.definitions.specs.CodeOperations.{between, decode_code}
 use Rattle.definitions.specs.StackOperations.{decode_stack}

@@ -1,4 +1,4 @@
-use Rattle.std.proofs.Common.{◌≡◌, ◌∙◌, ℕ, sym, ap, arith}
+use Rattle.std.proofs.Common.{◌≡◌, ◌∙◌, sym, ap, arith}
 use Rattle.answers.specs.Answering.{leaves}
 use Rattle.directory.specs.Entries.{kind_number}
 use Rattle.row_reading.proofs.Rows.{plan_decoded, stack_decoded, never, none}
