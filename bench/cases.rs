@@ -104,7 +104,7 @@ fn golay(q: u8) -> Vec<u8> {
     body
 }
 
-/// The bucket that acceptance (crates/acceptance/src/pairs.rs) puts a syndrome of at most 12 entries in.
+/// The bucket that acceptance (crates/acceptance/src/different.rt) puts a syndrome of at most 12 entries in.
 pub fn bucket(syndrome: &[u8]) -> u64 {
     let key = |entries: &[u8]| entries.iter().rev().fold(0u64, |key, &entry| key * 256 + entry as u64);
     let (first, second) = syndrome.split_at(syndrome.len().min(8));
