@@ -1,4 +1,4 @@
-// The boundary for other languages: each operation with numbers in place of enums. The crate fingerkerf_c exports these functions.
+// The boundary for other languages: each operation with numbers in place of Results. The crate fingerkerf_c exports these functions.
 #![tactic(auto)]
 
 ghost use Rattle.std.specs.Prelude.{◌≡◌, length};
