@@ -2,13 +2,13 @@
 use crate::printing::{Answer, Given};
 
 // The answer, if the name is one of these operations'.
-pub fn run(name: &str, body: &[u8], input: &[u8], out: &mut [u8]) -> Option<Answer> {
+pub fn run(name: &[u8], body: &[u8], input: &[u8], out: &mut [u8]) -> Option<Answer> {
     Some(match name {
-        "test" => Answer::tested(codec::test(body)),
-        "encode" => Answer::written(codec::encode(body, input, out)),
-        "decode" => Answer::WithOutput(codec::decode(body, input, out).map(Given::Decoded)),
-        "recover" => Answer::written(codec::recover(body, input, out)),
-        "code_cells" => Answer::size(sizes::code_cells(body)),
+        b"test" => Answer::tested(codec::test(body)),
+        b"encode" => Answer::written(codec::encode(body, input, out)),
+        b"decode" => Answer::WithOutput(codec::decode(body, input, out).map(Given::Decoded)),
+        b"recover" => Answer::written(codec::recover(body, input, out)),
+        b"code_cells" => Answer::size(sizes::code_cells(body)),
         _ => return None,
     })
 }

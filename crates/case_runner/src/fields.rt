@@ -1,42 +1,67 @@
 // The parts of a case, and the numbers in them.
-use anyhow::Result;
+ghost use Rattle.std.specs.Prelude.{IfOk, ◌≤◌, length};
 
-// An operation's word and its fields: a body, an input, and last the length of the output.
+use std::alloc::AllocError;
+
+// An operation's word, its body and input, and the length of the output, modulo 65,536.
 #[derive(Clone, Copy)]
 pub struct Case<'a> {
-    pub name: &'a str,
-    pub body: &'a str,
-    pub input: &'a str,
-    output: &'a str,
+    pub name: &'a [u8],
+    pub body: &'a [u8],
+    pub input: &'a [u8],
+    pub length: u16,
 }
 
 impl<'a> Case<'a> {
-    // The last field is the output's length.
-    pub fn new(line: &'a str) -> Case<'a> {
-        let (name, fields) = line.split_once(' ').unwrap_or((line, ""));
-        let (body, others) = fields.split_once('/').unwrap_or((fields, ""));
-        let (input, output) = others.split_once('/').unwrap_or(("", others));
+    pub fn new(line: &'a [u8]) -> Case<'a> {
+        let (name, fields) = split_once(line, b' ');
+        let (body, others) = split_once(fields, b'/');
+        let (second, third) = split_once(others, b'/');
+        // the last field is the output's length
+        let (input, output) = if third.is_empty() {
+            (third, second)
+        } else {
+            (second, third)
+        };
         Case {
             name,
             body,
             input,
-            output,
-        }
-    }
-
-    pub fn output_length(&self) -> Result<usize> {
-        match self.output.trim() {
-            "" => Ok(0),
-            digits => Ok(digits.parse()?),
+            length: (number(output) % 65536) as u16,
         }
     }
 }
 
-// The bytes that a field spells.
-pub fn bytes<R: Alloc>(rt: &R, field: &str) -> Result<Vec<u8, R::A>> {
-    let mut all = Vec::new(rt.alloc());
-    for word in field.split_whitespace() {
-        all.push(word.parse()?)?;
+// What stands before the first mark, and what stands behind it; all and nothing where there is none.
+fn split_once(s: &[u8], mark: u8) -> (&[u8], &[u8]) {
+    let mut parts = s.splitn(2, |b| *b == mark);
+    (parts.next().unwrap_or(&[]), parts.next().unwrap_or(&[]))
+}
+
+// The number that a field's digits spell; other bytes are passed over, and so are digits for which 64 bits may have no room.
+pub fn number(field: &[u8]) -> u64 {
+    let mut number = 0;
+    for b in field {
+        if b.is_ascii_digit() && number <= (u64::MAX - 9) / 10 {
+            number = number * 10 + u64::from(*b - b'0');
+        }
     }
-    Ok(all)
+    number
+}
+
+// The same modulo 256, as a byte.
+fn byte(word: &[u8]) -> u8 {
+    (number(word) % 256) as u8
+}
+
+// The bytes between a field's spaces, `most` of them at most.
+pub fn bytes<R: Alloc>(rt: &R, field: &[u8], most: usize) -> Result<Vec<u8, R::A>, AllocError>
+    ensures within { IfOk result (λ v. length v.items ≤ most) }
+{
+    field
+        .split(|b| *b == b' ')
+        .filter(|word| !word.is_empty())
+        .take(most)
+        .map(byte)
+        .collect(rt.alloc())
 }

@@ -2,12 +2,12 @@
 use crate::printing::Answer;
 
 // The answer, if the name is one of these operations'. The kind of a labeling stands where other operations have a body.
-pub fn run(name: &str, table: &[u8], input: &[u8], out: &mut [u8]) -> Option<Answer> {
-    let answer = match (name, table) {
-        ("make_labels", [kind]) => labeling::make_labels(usize::from(*kind), out),
-        ("to_levels", table) => labeling::to_levels(table, input, out),
-        ("to_states", table) => labeling::to_states(table, input, out),
+pub fn run(name: &[u8], table: &[u8], input: &[u8], out: &mut [u8]) -> Option<Answer> {
+    Some(match (name, table) {
+        (b"make_labels", [kind]) => Answer::written(labeling::make_labels(usize::from(*kind), out)),
+        (b"make_labels", _) => Answer::Message("one kind is wanted"),
+        (b"to_levels", _) => Answer::written(labeling::to_levels(table, input, out)),
+        (b"to_states", _) => Answer::written(labeling::to_states(table, input, out)),
         _ => return None,
-    };
-    Some(Answer::written(answer))
+    })
 }

@@ -4,13 +4,12 @@
 //
 // is the operation's word, what it takes (body, input), and last the length of the output, which holds 9s before the
 // call. The input of message_of_number is one number. The answer is followed by what the output holds after the call:
-// `count 2: 3 5 3 1 1`. A line that is empty or starts with # is printed as it is. A case that no operation takes, and
-// output that cannot be written, end the run.
+// `count 2: 3 5 3 1 1`. A line that is empty or starts with # is printed as it is.
 #![tactic(auto)]
 
 use crate::fields::Case;
 use crate::printing::{Answer, Buffer, Shown};
-use anyhow::{Context, Result};
+use std::alloc::AllocError;
 
 mod code_cases;
 mod fields;
@@ -21,38 +20,47 @@ mod packing_cases;
 mod printing;
 mod stack_cases;
 
-// The answer of the operation that has the case's name; an output is stored in `out`.
-fn answer(rt: &impl Alloc, case: &Case, out: &mut [u8]) -> Result<Answer> {
-    let body = fields::bytes(rt, case.body)?;
-    if case.name == "message_of_number" {
-        let number = case.input.trim().parse()?;
-        return Ok(number_cases::message_of_number(&body, number, out));
-    }
-    let input = fields::bytes(rt, case.input)?;
-    code_cases::run(case.name, &body, &input, out)
-        .or_else(|| stack_cases::run(case.name, &body, &input, out))
-        .or_else(|| label_cases::run(case.name, &body, &input, out))
-        .or_else(|| packing_cases::run(case.name, &body, &input, out))
-        .or_else(|| number_cases::run(case.name, &body, &input))
-        .or_else(|| image_cases::run(case.name, &body, &input, out))
-        .context("no operation takes this case")
+// The answer of the operation that has the case's name; an output is stored in `out`. The input is handed over as bytes,
+// and as one number.
+fn answer(rt: &impl Alloc, case: &Case, out: &mut [u8]) -> Result<Answer, AllocError> {
+    let name = case.name;
+    let body = fields::bytes(rt, case.body, 1024)?;
+    let input = fields::bytes(rt, case.input, 512)?;
+    let number = fields::number(case.input);
+    Ok(
+        code_cases::run(name, &body, &input, out)
+            .or_else(|| stack_cases::run(name, &body, &input, out))
+            .or_else(|| label_cases::run(name, &body, &input, out))
+            .or_else(|| packing_cases::run(name, &body, &input, out))
+            .or_else(|| number_cases::run(name, &body, number, &input, out))
+            .or_else(|| image_cases::run(name, &body, &input, out))
+            .unwrap_or(Answer::Message("no operation of that name")),
+    )
 }
 
-fn run_case(rt: &(impl Print + Alloc), case: &Case) -> Result<()> {
-    let mut out = vec![in rt.alloc(); 9u8; case.output_length()?]?;
-    match answer(rt, case, &mut out)? {
-        Answer::Alone(given) => println!(rt; "{}", Shown(given))?,
-        Answer::WithOutput(given) => println!(rt; "{}{}", Shown(given), Buffer(&out))?,
-    }
+// What cannot be printed is passed over.
+fn run_case(rt: &(impl Print + Alloc), case: &Case) -> Result<(), AllocError> {
+    let mut cells = [9u8; 512];
+    let Some(out) = cells.get_mut(..usize::from(case.length)) else {
+        let _ = rt.println("output too long");
+        return Ok(());
+    };
+    let _ = match answer(rt, case, out)? {
+        Answer::Alone(given) => println!(rt; "{}", Shown(given)),
+        Answer::WithOutput(given) => println!(rt; "{}{}", Shown(given), Buffer(out)),
+        Answer::Message(why) => rt.println(why),
+    };
     Ok(())
 }
 
-pub fn run(rt: &(impl Print + Alloc), text: &str) -> Result<()> {
-    for line in text.lines() {
-        if line.is_empty() || line.starts_with('#') {
-            rt.println(line)?;
+pub fn run(rt: &(impl Print + Alloc), text: &[u8]) -> Result<(), AllocError> {
+    for line in text.split_inclusive(|b| *b == b'\n') {
+        let line = line.strip_suffix(b"\n").unwrap_or(line);
+        if line.is_empty() || line.starts_with(b"#") {
+            let _ = rt.write_all(line);
+            let _ = rt.println("");
         } else {
-            run_case(rt, &Case::new(line)).context(format_args!("{line}"))?;
+            run_case(rt, &Case::new(line))?;
         }
     }
     Ok(())

@@ -2,11 +2,11 @@
 use crate::printing::Answer;
 
 // The answer, if the name is one of these operations'.
-pub fn run(name: &str, body: &[u8], input: &[u8], out: &mut [u8]) -> Option<Answer> {
+pub fn run(name: &[u8], body: &[u8], input: &[u8], out: &mut [u8]) -> Option<Answer> {
     Some(match name {
-        "pack" => Answer::written(packing::pack(body, input, out)),
-        "unpack" => Answer::written(packing::unpack(body, input, out)),
-        "packed_bytes" => Answer::size(packing::packed_bytes(body)),
+        b"pack" => Answer::written(packing::pack(body, input, out)),
+        b"unpack" => Answer::written(packing::unpack(body, input, out)),
+        b"packed_bytes" => Answer::size(packing::packed_bytes(body)),
         _ => return None,
     })
 }

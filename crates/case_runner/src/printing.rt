@@ -21,6 +21,8 @@ pub enum Given {
 pub enum Answer {
     Alone(Result<Given, Refusal>),
     WithOutput(Result<Given, Refusal>),
+    // no operation takes the case: why
+    Message(&'static str),
 }
 
 impl Answer {

@@ -3,7 +3,9 @@
 
 use std::io::{self, Read};
 
-fn main(rt: HostRuntime) -> anyhow::Result<()> {
-    let text = io::read_to_string(rt.alloc(), rt.reader().take(65536))?;
-    case_runner::run(&rt, &text)
+fn main(rt: HostRuntime) -> io::Result<()> {
+    let mut text = Vec::new(rt.alloc());
+    rt.reader().take(65536).read_to_end(&mut text)?;
+    case_runner::run(&rt, &text)?;
+    Ok(())
 }
