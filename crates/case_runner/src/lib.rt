@@ -38,30 +38,28 @@ fn answer(rt: &impl Alloc, case: &Case, out: &mut [u8]) -> Result<Answer, AllocE
     )
 }
 
-// What cannot be printed is passed over.
-fn run_case(rt: &(impl Print + Alloc), case: &Case) -> Result<(), AllocError> {
+// What cannot be printed is passed over; where there is no memory for a case, that is said.
+fn run_case(rt: &(impl Print + Alloc), case: &Case) {
     let mut cells = [9u8; 512];
     let Some(out) = cells.get_mut(..usize::from(case.length)) else {
         let _ = rt.println("output too long");
-        return Ok(());
+        return;
     };
-    let _ = match answer(rt, case, out)? {
+    let _ = match answer(rt, case, out).unwrap_or(Answer::Message("out of memory")) {
         Answer::Alone(given) => println!(rt; "{}", Shown(given)),
         Answer::WithOutput(given) => println!(rt; "{}{}", Shown(given), Buffer(out)),
         Answer::Message(why) => rt.println(why),
     };
-    Ok(())
 }
 
-pub fn run(rt: &(impl Print + Alloc), text: &[u8]) -> Result<(), AllocError> {
+pub fn run(rt: &(impl Print + Alloc), text: &[u8]) {
     for line in text.split_inclusive(|b| *b == b'\n') {
         let line = line.strip_suffix(b"\n").unwrap_or(line);
         if line.is_empty() || line.starts_with(b"#") {
             let _ = rt.write_all(line);
             let _ = rt.println("");
         } else {
-            run_case(rt, &Case::new(line))?;
+            run_case(rt, &Case::new(line));
         }
     }
-    Ok(())
 }
