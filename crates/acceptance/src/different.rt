@@ -5,7 +5,8 @@ ghost use Rattle.definitions.specs.Acceptance.{all_different};
 ghost use Rattle.acceptance.specs.Keys.{word_of};
 ghost use Rattle.acceptance.specs.Tree.{bucket_of, child_of, Tree, SlotOf};
 
-// A slot holds the number of a key, from 1, or 0: an Option takes twice the memory, and made this function up to twice as slow.
+// A slot holds the number of a key, from 1, or 0: an Option takes twice the memory, and made this function up to twice as slow. Numbers
+// stand for references, since the library asks for no memory.
 pub fn all_different(keys: &[u128]) -> bool
     requires { length keys.now ≤ 4096 }
     ensures { result ≡ all_different (map word_of keys.now) }

@@ -1,4 +1,5 @@
-// Listing the patterns of a code: of each, in their order, the key of its syndrome is stored.
+// Listing the patterns of a code: of each, in their order, the key of its syndrome is stored. The two functions that choose a cell and a
+// magnitude stand in the search too: there they break off at the first pattern that passes, and filter before each choice.
 ghost use Rattle.std.specs.Prelude.{◌≡◌, ◌+◌, ◌<◌, ◌≤◌, length};
 ghost use Rattle.definitions.specs.Words.{EachCell};
 ghost use Rattle.opening.specs.Viewed.{code as the_code};

@@ -54,7 +54,7 @@ pub enum Refusal {
 impl Refusal {
     ghost use Rattle.answers.specs.Answering.{refusal_number, refusal_plane};
 
-    // Its number.
+    // Its number: a match, since two refusals share 11.
     pub fn number(self) -> usize
         ensures { result ≡ refusal_number self }
     {

@@ -62,7 +62,8 @@ pub fn entry_at(image: &[u8], k: usize) -> Entry
     }
 }
 
-// The body of entry k.
+// The body of entry k. It asks InImage of an image and a number, not of a type: the check of an image reads entries before the image is
+// known to pass.
 pub fn body(image: &[u8], k: usize) -> &[u8]
     requires { InImage image.now k }
     ensures { result.now ≡ body_of image.now k }

@@ -151,7 +151,7 @@ fn lacks_power(labeling: Labeling, q: usize) -> bool
     labeling != Labeling::Straight && !bits::is_power_of_two(q)
 }
 
-// Make labels. The table's length is q.
+// Make labels. The table's length is q; the kind is a number, as C hands it over.
 #[tactic(auto, unfolding(definitions::specs::LabelOperations::make_labels))]
 pub fn make_labels(kind: usize, table: &mut [u8]) -> Result<(), Refusal>
     ensures result { leaves (answer_of result) table.new ≡ make_labels kind table.old }

@@ -39,7 +39,7 @@ fn digit(level: u8, w: usize, c: usize) -> u8
     (usize::from(level) / w % c) as u8
 }
 
-// The digits of a word's levels, in its first cells.
+// The digits of a word's levels, in the first cells of an array: the library asks for no memory.
 pub fn digits(word: &[u8], w: usize, c: usize) -> [u8; 64]
     requires { (length word.now ≤ 64) × (1 ≤ w) × (1 ≤ c) }
     ensures { take (length word.now) result ≡ digits w c word.now }

@@ -1,4 +1,5 @@
-// The examples of documents 000, 001 and 003 (docs/SOURCES.md). tests/expected.rs says what must be printed.
+// The examples of documents 000, 001 and 003 (docs/SOURCES.md). tests/expected.rs says what must be printed. A program of its own beside
+// worked_examples, since each has its own input.
 #![tactic(auto)]
 
 use std::io::{self, Read};
