@@ -1,19 +1,18 @@
 -- Raising a cell: what it does to each entry of a syndrome.
 use mathlib.Core.Path.{◌≡◌, refl, sym, ap, ◌∙◌}
 use mathlib.Core.List.{List}
-use Prim.Native.Nat.{ℕ, ◌+◌, ◌*◌, ◌%◌, ◌≤◌, ◌<◌}
+use Prim.Native.Nat.{ℕ, ◌+◌, ◌%◌, ◌<◌}
 use native.Mathlib.Nat.{mod-lt, zero-add}
-use native.Mathlib.Decide.{dec_lt}
 use native.Mathlib.Numerals.{add-one}
 use native.Mathlib.Omega.{arith}
 use lib.ListN.{length}
 use lib.Seq.{ext_get_or}
 use Rattle.definitions.specs.Words.{at, EachCell}
-use Rattle.definitions.specs.Codes.{Code, data_cells}
+use Rattle.definitions.specs.Codes.{Code}
 use Rattle.word_laws.proofs.Cells.{at_each, at-up_from}
 use Rattle.definitions.proofs.Tests.{below_each}
 use Rattle.syndrome.specs.Columns.{column}
-use Rattle.syndrome.proofs.Columns.{column-below, column-past}
+use Rattle.syndrome.proofs.Columns.{column-below}
 use Rattle.opening.specs.Viewed.{code}
 use Rattle.opening.specs.declared.Code.{Code as Opened}
 use Rattle.acceptance.specs.Listing.{raised, raised_by}
@@ -38,15 +37,6 @@ module _ (p : Code) (cell : ℕ) (s : List ℕ) where
     at_each (λ v. v < p.M) x (λ k b. rw (h k (omega (arith, l))) (mod-lt (at s k + column p k cell) m)),
     l,
   )
-
--- beyond the r entries a column is 0
-pub column_ends : (p : Code) (cell : ℕ) (x : List ℕ) (i : ℕ) → length p.A ≡ p.r * data_cells p → cell < p.n → p.r ≤ i
-    → ((k : ℕ) → k < i → at x k ≡ column p k cell) → ((k : ℕ) → i ≤ k → at x k ≡ 0) → (k : ℕ) → at x k ≡ column p k cell
-column_ends p cell x i la h r done left k = by (dec_lt k i)
-  where
-    by : Dec (k < i) → at x k ≡ column p k cell
-    by (yes d) = done k d
-    by (no d) = left k (omega arith) ∙ sym (column-past p k cell la (omega arith) h)
 
 -- magnitude after magnitude
 pub raised-zero : (p : Code) (cell : ℕ) (s : List ℕ) → s ≡ raised_by p cell 0 s

@@ -16,25 +16,13 @@ pub struct Columns<'a> {
     pub ghost entry: { (c k : ℕ) → c < code.n → at (slice_index_or table c []) k ≡ column (the_code code) k c },
 }
 
-// The column of one cell.
-fn column_of(code: &Code, cell: usize) -> [u8; 16]
-    requires { cell < code.now.n }
-    ensures { (length result ≡ 16) × ((k : ℕ) → at result k ≡ column (the_code code.now) k cell) }
-{
-    let mut column = [0u8; 16];
-    for k in 0..code.r {
-        column[k] = code.column(k, cell) as u8;
-    }
-    column
-}
-
 impl<'a> Columns<'a> {
     pub fn of(code: &Code<'a>) -> Columns<'a>
         ensures { result.code ≡ code.now }
     {
         let mut table = [[0u8; 16]; 64];
         for cell in 0..code.n {
-            table[cell] = column_of(code, cell);
+            table[cell] = code.column_of(cell);
         }
         Columns { code: *code, table }
     }
@@ -44,11 +32,8 @@ impl<'a> Columns<'a> {
         requires { (cell < self.now.code.n) × (length s.now ≡ 16) × EachCell (λ v. v < self.now.code.m) s.now }
         ensures { (result ≡ raised (the_code self.now.code) cell s.now) × EachCell (λ v. v < self.now.code.m) result × (length result ≡ 16) }
     {
-        let modulus = self.code.m as u8;
-        let mut x = *s;
-        for k in 0..16 {
-            x[k] = byte_helpers::add_modulo(modulus, s[k], self.table[cell][k]);
-        }
-        x
+        // Copied: the check has no rule yet for lending a part of a struct that holds a reference.
+        let column = self.table[cell];
+        byte_helpers::add_entries(self.code.m as u8, s, &column)
     }
 }

@@ -1,8 +1,8 @@
 // What the layers above do with bytes and levels: bound, multiply, add modulo m.
 #![tactic(auto)]
 
-ghost use Rattle.std.specs.Prelude.{◌≡◌, ◌+◌, ◌*◌, ◌%◌, ◌<◌, ◌≤◌};
-ghost use Rattle.definitions.specs.Words.{all_below};
+ghost use Rattle.std.specs.Prelude.{◌≡◌, ℕ, ◌+◌, ◌*◌, ◌%◌, ◌<◌, ◌≤◌, length};
+ghost use Rattle.definitions.specs.Words.{at, all_below};
 
 // A product of two levels.
 pub fn times(a: usize, b: usize) -> usize
@@ -19,6 +19,20 @@ pub fn add_modulo(m: u8, a: u8, e: u8) -> u8
 {
     let sum = a + e;
     if sum < m { sum } else { sum - m }
+}
+
+// Each entry of s with that of a column added modulo m. A loop: of the calls that `array::from_fn` makes, a proof is told each with some
+// state of its closure, and did not close.
+pub fn add_entries<const N: usize>(m: u8, s: &[u8; N], column: &[u8; N]) -> [u8; N]
+    requires { (m ≤ 64) × ((i : ℕ) → i < N → at s.now i < m) × ((i : ℕ) → i < N → at column.now i < m) }
+    ensures long { length result ≡ N }
+    ensures entry { (i : ℕ) → at result i ≡ (at s.now i + at column.now i) % m }
+{
+    let mut x = *s;
+    for i in 0..N {
+        x[i] = add_modulo(m, s[i], column[i]);
+    }
+    x
 }
 
 // Whether each byte is below a bound: by the largest, since a loop with one exit runs on many bytes at a time.

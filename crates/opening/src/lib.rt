@@ -2,7 +2,7 @@
 #![tactic(auto)]
 
 ghost use Rattle.std.specs.Prelude.{◌≡◌, true, List, ℕ, suc, ◌+◌, ◌*◌, ◌^◌, ◌-◌, ◌≤◌, ◌<◌, length};
-ghost use Rattle.definitions.specs.Words.{sum_to, all_below, all_zero};
+ghost use Rattle.definitions.specs.Words.{at, sum_to, all_below, all_zero};
 ghost use Rattle.definitions.specs.Codewords.{syndrome_entry, syndrome};
 ghost use Rattle.definitions.specs.Patterns.{binomial, pattern_count};
 ghost use Rattle.definitions.specs.CodeOperations.{in_range, open_code};
@@ -175,6 +175,19 @@ impl<'a> Code<'a> {
             return usize::from(self.matrix[i * w + cell]);
         }
         if cell == w + i { 1 } else { 0 }
+    }
+
+    // The column of a cell in N entries; those from r on are 0.
+    pub fn column_of<const N: usize>(&self, cell: usize) -> [u8; N]
+        requires { (cell < self.now.n) × (self.now.r ≤ N) }
+        ensures long { length result ≡ N }
+        ensures entry { (i : ℕ) → at result i ≡ column (code self.now) i cell }
+    {
+        let mut column = [0u8; N];
+        for i in 0..self.r {
+            column[i] = self.column(i, cell) as u8;
+        }
+        column
     }
 
     // Whether all r entries of the word's syndrome are 0.

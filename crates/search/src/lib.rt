@@ -98,7 +98,7 @@ fn choose_magnitude(
     requires table { IfSome last (λ x. LastCells (the_code a.now.code) x.now) }
     ensures { sought_as a.now.code.n result ≡ seek (test_for a.now) (magnitudes_left a.now k) k.tried }
 {
-    let column = search_filters::column_of(&a.code, k.cell);
+    let column = a.code.column_of(k.cell);
     let all = byte_helpers::times(a.code.n - (k.cell + 1), a.code.l);
     let mut next = *rest;
     let mut tried = k.tried;

@@ -1,10 +1,9 @@
 // Filters of the search: that no last choice can leave nothing of a syndrome, at a cell or from a cell on. They only rule out.
 #![tactic(auto)]
 
-ghost use Rattle.std.specs.Prelude.{◌≡◌, true, false, ℕ, ◌+◌, ◌*◌, ◌%◌, ◌<◌, ◌≤◌, length, IsSomeAnd};
+ghost use Rattle.std.specs.Prelude.{◌≡◌, true, false, ℕ, ◌*◌, ◌%◌, ◌<◌, ◌≤◌, length, IsSomeAnd};
 ghost use Rattle.definitions.specs.Words.{at};
 ghost use Rattle.opening.specs.Viewed.{code as the_code};
-ghost use Rattle.syndrome.specs.Columns.{column};
 ghost use Rattle.search_filters.specs.Filters.{less_modulo, weighed_of, hash_of, Misses, NoneAt, LastCells, Marked};
 
 use opening::Code;
@@ -17,8 +16,8 @@ fn less_modulo(m: u8, a: u8, e: u8) -> u8
     if a < e { a + (m - e) } else { a - e }
 }
 
-// What remains of a syndrome once the magnitude of a cell with this column is one more. This and `raised` are loops: of the calls that
-// `array::from_fn` makes, a proof is told each with some state of its closure, and did not close.
+// What remains of a syndrome once the magnitude of a cell with this column is one more. A loop: of the calls that `array::from_fn` makes,
+// a proof is told each with some state of its closure, and did not close.
 pub fn lowered(m: u8, rest: [u8; 12], column: [u8; 12]) -> [u8; 12]
     requires { (m ≤ 64) × ((i : ℕ) → at rest i < m) × ((i : ℕ) → at column i < m) }
     ensures { (i : ℕ) → at result i ≡ less_modulo m (at rest i) (at column i) }
@@ -26,30 +25,6 @@ pub fn lowered(m: u8, rest: [u8; 12], column: [u8; 12]) -> [u8; 12]
     let mut s = rest;
     for i in 0..12 {
         s[i] = less_modulo(m, rest[i], column[i]);
-    }
-    s
-}
-
-// The multiple of a column once its magnitude is one more.
-fn raised(m: u8, s: [u8; 12], column: [u8; 12]) -> [u8; 12]
-    requires { (m ≤ 64) × ((i : ℕ) → at s i < m) × ((i : ℕ) → at column i < m) }
-    ensures { (i : ℕ) → at result i ≡ (at s i + at column i) % m }
-{
-    let mut x = s;
-    for i in 0..12 {
-        x[i] = byte_helpers::add_modulo(m, s[i], column[i]);
-    }
-    x
-}
-
-// The column of a cell, for a check cell a unit column; its entries from r on are 0.
-pub fn column_of(code: &Code, cell: usize) -> [u8; 12]
-    requires { cell < code.now.n }
-    ensures { (i : ℕ) → at result i ≡ column (the_code code.now) i cell }
-{
-    let mut s = [0u8; 12];
-    for i in 0..code.r {
-        s[i] = code.column(i, cell) as u8;
     }
     s
 }
@@ -83,7 +58,7 @@ fn mark(m: u8, l: usize, column: [u8; 12], cell: usize, last: &mut [u8; 4096])
     let number = (cell + 1) as u8;
     let mut s = [0u8; 12];
     for _ in 0..l {
-        let y = raised(m, s, column);
+        let y = byte_helpers::add_entries(m, &s, &column);
         last[hash(y)] = number;
         s = y;
     }
@@ -95,7 +70,7 @@ pub fn mark_cells(code: &Code, last: &mut [u8; 4096])
     ensures { LastCells (the_code code.now) last.new }
 {
     for c in 0..code.n {
-        mark(code.m as u8, code.l, column_of(code, c), c, last);
+        mark(code.m as u8, code.l, code.column_of(c), c, last);
     }
 }
 

@@ -64,6 +64,16 @@ entry_past p x i la lx rn m h =
         let g : p.r * w ≤ i * w = mul-le-mul_right w h in
         ap (λ (v : ℕ). v * at x j) (at-past p.A (i * w + j) (omega arith)) ∙ zero-mul (at x j)
 
+-- a column that was stored entry by entry below r, with 0 from r on
+pub all_column :
+    (p : Code) (c : ℕ) (s : List ℕ) → length p.A ≡ p.r * data_cells p → c < p.n → (r : ℕ) → p.r ≤ r
+    → ((j : ℕ) → j < r → at s j ≡ column p j c) → ((j : ℕ) → r ≤ j → at s j ≡ 0) → (j : ℕ) → at s j ≡ column p j c
+all_column p c s la h r g done left j = step (dec_lt j r)
+  where
+    step : Dec (j < r) → at s j ≡ column p j c
+    step (yes b) = done j b
+    step (no b) = left j (omega arith) ∙ sym (column-past p j c la (omega arith) h)
+
 -- a column's entry by the cell's kind
 module _ (p : Code) (i c : ℕ) where
   pub column_data : c < data_cells p → at p.A (i * data_cells p + c) ≡ column p i c

@@ -92,7 +92,7 @@ pub choose_magnitude-lowered-y-requires : goal.choose_magnitude-lowered-y-requir
 choose_magnitude-lowered-y-requires t c =
     let p = c.args.a.now.code in
     let small : (i : ℕ) → at c.column_of-column.result i < p.m =
-    λ i. omega (arith, c.column_of-column.ensures i, columns_below p c.args.k.cell i) in
+    λ i. omega (arith, c.column_of-column.ensures.entry i, columns_below p c.args.k.cell i) in
     (omega arith, c.loop-mag.invariant.remains.below, small)
 
 pub choose_magnitude-choose_cell-requires : goal.choose_magnitude-choose_cell-requires
@@ -104,7 +104,7 @@ choose_magnitude-choose_cell-requires t c =
     let (reached, some, cell) = c.requires.reached in
     let remains : Remains p a.s (added k.risen k.cell (l.mag + 1)) c.lowered-y.result =
     remains-next p a.s k.risen k.left k.cell reached.chosen some l.mag l.next c.lowered-y.result cell (columns_below a.code k.cell) l.invariant.remains
-    (λ i. c.lowered-y.ensures i ∙ ap (less_modulo p.M (at l.next i)) (c.column_of-column.ensures i)) in
+    (λ i. c.lowered-y.ensures i ∙ ap (less_modulo p.M (at l.next i)) (c.column_of-column.ensures.entry i)) in
     let chosen = chosen-added k.risen k.left k.cell (l.mag + 1) reached.chosen some in
     let room = mag_first p k.risen k.left k.cell l.mag some c.loop-mag-test.true reached.chosen l.tried 4096 l.invariant.room in
     let falls : 2 * (k.left - 1) < t = let m = c.decreases in omega arith in
@@ -130,7 +130,7 @@ choose_magnitude-loop-mag-preserved t c =
     let (reached, some, cell) = c.requires.reached in
     let remains : Remains p a.s (added k.risen k.cell (l.mag + 1)) c.lowered-y.result =
     remains-next p a.s k.risen k.left k.cell reached.chosen some l.mag l.next c.lowered-y.result cell (columns_below a.code k.cell) l.invariant.remains
-    (λ i. c.lowered-y.ensures i ∙ ap (less_modulo p.M (at l.next i)) (c.column_of-column.ensures i)) in
+    (λ i. c.lowered-y.ensures i ∙ ap (less_modulo p.M (at l.next i)) (c.column_of-column.ensures.entry i)) in
     let gave : (none, c.if-cannot_end_from.tried)
     ≡ seek (test_for a) (cells_from p (added k.risen k.cell (l.mag + 1)) (k.left - 1) (k.cell + 1)) l.tried =
     elim c.if-cannot_end_from.branch [

@@ -9,9 +9,9 @@ pub loop-preserved : goal.loop-preserved
 loop-preserved c =
     let f = at c.args.column in
     let l = c.loop in
-    let next = c.raised-y.result in
+    let next = c.add_entries-y.result in
     let more : (i : ℕ) → at next i ≡ times_of c.args.m f (l.counter + 1) i =
-    λ i. multiple_more c.args.m l.counter (f i) (at l.s i) (at next i) (l.invariant.1 i) (c.raised-y.ensures i) in
+    λ i. multiple_more c.args.m l.counter (f i) (at l.s i) (at next i) (l.invariant.1 i) (c.add_entries-y.ensures.entry i) in
     let marked = marked_more f c.args.m c.args.cell l.counter c.args.last.now l.last l.invariant.2 c.hash.result (c.args.cell + 1) (omega arith) refl
     (c.hash.ensures ∙ hash_same (at next) (times_of c.args.m f (l.counter + 1)) more) in
     (marked.long, more, marked)

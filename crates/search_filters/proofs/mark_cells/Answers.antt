@@ -9,5 +9,5 @@ pub mark-requires-clause-bounds : goal.mark-requires-clause-bounds
 mark-requires-clause-bounds c =
     let p = code c.args.code.now in
     let small : (i : ℕ) → at c.column_of.result i < p.M =
-    λ i. omega (arith, c.column_of.ensures i, column-below p i c.loop-c.c (search rules) (below_each p.M p.A (rw c.args.code.now.entries tt))) in
+    λ i. omega (arith, c.column_of.ensures.entry i, column-below p i c.loop-c.c (search rules) (below_each p.M p.A (rw c.args.code.now.entries tt))) in
     (search rules, search rules, small, search rules, search rules)
