@@ -1,4 +1,4 @@
-// Are all keys different? Each finds its slot in a digital search tree to every bucket. Without the trees a code whose keys share one bucket
+// Are all keys different? Each finds its slot in the digital search tree of its bucket. Without the trees a code whose keys share one bucket
 // would cost the square of their number; in a tree no key is further from its bucket than it has bits.
 ghost use Rattle.std.specs.Prelude.{◌≡◌, map, ◌<◌, ◌≤◌, length};
 ghost use Rattle.definitions.specs.Acceptance.{all_different};

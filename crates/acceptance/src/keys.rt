@@ -1,6 +1,7 @@
 // The keys of listed syndromes: a syndrome's 16 entries are the bytes of one number.
 ghost use Rattle.std.specs.Prelude.{[], ◌∷◌, ◌<◌};
 
+// The first `count` keys of an array, since the library asks for no memory.
 #[derive(Drop)]
 pub struct Listed {
     pub keys: [u128; 4096],

@@ -14,7 +14,8 @@ use columns::Columns;
 use keys::Listed;
 use opening::Code;
 
-// "no two different patterns, taken as rows, have all residues equal". Not inlined: a caller that refuses would make room for its arrays first.
+// Whether no two different patterns have one syndrome. Not inlined: room for its arrays is then made at its entry, and not behind a caller's
+// refusals, where the compiler's probe of the stack overwrote a register in use.
 #[inline(never)]
 pub fn is_accepted(code: &Code) -> bool
     ensures { result ≡ accepted (the_code code.now) }

@@ -128,7 +128,7 @@ impl fmt::Display for Refusal {
 
 impl Error for Refusal {}
 
-// What a row's record holds: a count or a refusal.
+// What a row's record holds: a count or a refusal. An enum of its own, not a Result: it is what was found, and no call failed.
 #[derive(Clone, Copy, Debug, PartialEq, Eq)]
 pub enum Outcome {
     Count(usize),

@@ -21,8 +21,8 @@ pub fn add_modulo(m: u8, a: u8, e: u8) -> u8
     if sum < m { sum } else { sum - m }
 }
 
-// Each entry of s with that of a column added modulo m. A loop: of the calls that `array::from_fn` makes, a proof is told each with some
-// state of its closure, and did not close.
+// Each entry of s with that of a column added modulo m. A loop: with `array::from_fn` the proof did not close, since
+// it is told each call with some state of the closure only.
 pub fn add_entries<const N: usize>(m: u8, s: &[u8; N], column: &[u8; N]) -> [u8; N]
     requires { (m ≤ 64) × ((i : ℕ) → i < N → at s.now i < m) × ((i : ℕ) → i < N → at column.now i < m) }
     ensures long { length result ≡ N }

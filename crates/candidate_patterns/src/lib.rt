@@ -12,7 +12,8 @@ pub mod asked;
 
 use asked::Asked;
 
-// A cell, counted from 0, and the magnitude by which it rises; a magnitude of 0 is no rise.
+// A cell, counted from 0, and the magnitude by which it rises; a magnitude of 0 is no rise: with a count beside the array, or
+// Options in it, a search takes 1.25 to 2 times as long.
 #[derive(Clone, Copy)]
 pub struct Rise {
     pub cell: usize,

@@ -20,9 +20,8 @@ mod packing_cases;
 mod printing;
 mod stack_cases;
 
-// The answer of the operation that has the case's name, by a match on it, since each operation takes other parameters; an output is
-// stored in `out`. The input is handed over as bytes,
-// and as one number.
+// The answer of the operation that has the case's name, by a match on it, which is plainer than a table of functions; an output is stored
+// in `out`. The input is handed over as bytes, and as one number.
 fn answer(rt: &impl Alloc, case: &Case, out: &mut [u8]) -> Result<Answer, AllocError> {
     let name = case.name;
     let body = fields::bytes(rt, case.body, 1024)?;

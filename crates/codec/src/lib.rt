@@ -170,7 +170,7 @@ pub trait Codec {
         Ok(())
     }
 
-    // the test of acceptance says it
+    // the test passes exactly what is accepted
     ghost accepted_exactly: { (x : Self) → (accepts x ≡ true) ↔ accepted x };
 
     // messages and codewords correspond one to one

@@ -17,7 +17,7 @@ pub enum Kind {
 impl Kind {
     ghost use Rattle.directory.specs.Entries.{kind_number};
 
-    // The kind of a number; other numbers than 1 to 3 have none.
+    // The kind of a number; other numbers than 1 to 3 have none. An Option, not TryFrom: which refusal it is depends on who asks.
     pub fn of(number: u8) -> Option<Kind>
         ensures { MatchOption result (between 1 number 3 ≡ false) (λ kind. kind_number kind ≡ number) }
     {

@@ -118,7 +118,7 @@ pub fn levels_recover_stack(body: &[u8], word: &[u8], out: &mut [u8]) -> usize
     numbered_answers::number_of(codec::recover_stack(body, word, out))
 }
 
-// Make labels: the table's length is q.
+// Make labels: the table's length is q. The kind is a number, as C has it.
 pub fn levels_make_labels(kind: usize, table: &mut [u8]) -> usize
     ensures number { result ≡ number_of (make_labels kind table.old).answer }
     ensures buffer { table.new ≡ (make_labels kind table.old).out }

@@ -35,7 +35,7 @@ pub struct Value {
     pub value: u64,
 }
 
-// What a test answers, or an operation that writes.
+// What a test answers, or an operation that writes. No From: neither type is of this crate.
 pub fn number_of(answer: Result<(), Refusal>) -> usize
     ensures { result ≡ number_of (answer_of answer) }
 {

@@ -1,4 +1,4 @@
-// Opening a description: from its bytes to a code as one value, or to a refusal. An opened code has its syndromes as methods.
+// Opening a description: from its bytes to a code as one value, or to a refusal. An opened code has a word's syndrome as a method.
 #![tactic(auto)]
 
 ghost use Rattle.std.specs.Prelude.{◌≡◌, true, List, ℕ, suc, ◌+◌, ◌*◌, ◌^◌, ◌-◌, ◌≤◌, ◌<◌, length};

@@ -9,9 +9,6 @@ use Rattle.definitions.specs.Words.{at}
 use Rattle.word_laws.proofs.Filling.{zeros-at}
 use Rattle.search_filters.specs.Filters.{times_of}
 
-pub multiple_none : (M : ℕ) (f : ℕ → ℕ) (i : ℕ) → at (replicate 12 0) i ≡ times_of M f 0 i
-multiple_none M f i = zeros-at 12 i ∙ sym (ap (λ (v : ℕ). v % M) (zero-mul (f i)) ∙ zero-mod M)
-
 pub multiple_more : (M g e x y : ℕ) → x ≡ (g * e) % M → y ≡ (x + e) % M → y ≡ ((g + 1) * e) % M
 multiple_more M g e x y ex ey =
     ey ∙ ap (λ (v : ℕ). (v + e) % M) ex ∙ mod-add-mod (g * e) M e

@@ -37,11 +37,6 @@ dec_eq a b = by (dec_lt a b) (dec_lt b a)
     by (no l) (no m) = yes (omega arith)
 
 -- the multiples of a column, one after the other
-pub marked_none :
-    (f : ℕ → ℕ) (M c : ℕ) (last : List ℕ) → length last ≡ 4096 → ((h : ℕ) → at last h ≤ c) → Marked f M c 0 last last
-marked_none f M c last long b =
-    record { long = long; below = λ h. (let z = b h in omega arith); kept = λ h. omega arith; here = λ g a z. absurd (omega arith) }
-
 module _
     (f : ℕ → ℕ) (M c mag : ℕ) (last last' : List ℕ) (m : Marked f M c mag last last') (h v : ℕ) (inside : h < 4096) (ev : v ≡ c + 1)
     (eh : h ≡ hash_of (times_of M f (mag + 1))) where
@@ -85,15 +80,3 @@ module _
 -- the cells before c are marked
 abbrev pub MarkedBefore : Code → ℕ → List ℕ → Type 0
 MarkedBefore p c last = (c' g : ℕ) → c' < c → 1 ≤ g → g ≤ p.l → c' < at last (hash_of (multiple_of p c' g))
-
-pub cells_more :
-    (p : Code) (c : ℕ) (f : ℕ → ℕ) (last last' : List ℕ) → ((i : ℕ) → f i ≡ column p i c) → Marked f p.M c p.l last last'
-    → MarkedBefore p c last → MarkedBefore p (c + 1) last'
-cells_more p c f last last' ef m before c' g h a z = step (dec_lt c' c)
-  where
-    equal : hash_of (times_of p.M f g) ≡ hash_of (multiple_of p c g)
-    equal = hash_same (times_of p.M f g) (multiple_of p c g) (λ i. ap (λ (v : ℕ). (g * v) % p.M) (ef i))
-
-    step : Dec (c' < c) → c' < at last' (hash_of (multiple_of p c' g))
-    step (yes d) = let x = before c' g d a z in let y = m.kept (hash_of (multiple_of p c' g)) in omega arith
-    step (no d) = let q : c' ≡ c = omega arith in rw (q, ← equal) (m.here g a z)

@@ -16,8 +16,8 @@ fn less_modulo(m: u8, a: u8, e: u8) -> u8
     if a < e { a + (m - e) } else { a - e }
 }
 
-// What remains of a syndrome once the magnitude of a cell with this column is one more. A loop: of the calls that `array::from_fn` makes,
-// a proof is told each with some state of its closure, and did not close.
+// What remains of a syndrome once the magnitude of a cell with this column is one more. A loop: with `array::from_fn`
+// the proof did not close, since it is told each call with some state of the closure only.
 pub fn lowered(m: u8, rest: [u8; 12], column: [u8; 12]) -> [u8; 12]
     requires { (m ≤ 64) × ((i : ℕ) → at rest i < m) × ((i : ℕ) → at column i < m) }
     ensures { (i : ℕ) → at result i ≡ less_modulo m (at rest i) (at column i) }

@@ -1,5 +1,5 @@
-// Sizes that a caller needs before a call, since an operation refuses with 8 a buffer that is not of its exact length. Each function answers another
-// field of another type: one for all three would be no shorter.
+// Sizes that a caller needs before a call, since an operation refuses with 8 a buffer that is not of its exact length. Three fields of two types:
+// one function for all would be no shorter.
 #![tactic(auto)]
 
 ghost use Rattle.std.specs.Prelude.{◌≡◌};

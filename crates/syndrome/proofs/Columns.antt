@@ -102,11 +102,5 @@ module _ (f : ℕ → ℕ) (r i : ℕ) where
   abbrev pub zeros_from : Bool
   zeros_from = all_zero (map f (up_from i (r - i)))
 
-pub zero_hit : (f : ℕ → ℕ) (r i : ℕ) → i < r → (f i ≡ 0 → ⊥) → zeros_from f r i ≡ false
-zero_hit f r i h g = let e : r - i ≡ suc (r - suc i) = omega arith in rw (e, ne_eqb (f i) 0 g)
-
 pub zero_miss : (f : ℕ → ℕ) (r i : ℕ) → i < r → f i ≡ 0 → zeros_from f r i ≡ zeros_from f r (i + 1)
 zero_miss f r i h g = let e : r - i ≡ suc (r - suc i) = omega arith in rw (add-one, e, eq-eqb (f i) 0 g)
-
-pub zero-end : (f : ℕ → ℕ) (r i : ℕ) → r ≤ i → zeros_from f r i ≡ true
-zero-end f r i h = let e : r - i ≡ 0 = omega arith in rw e

@@ -12,7 +12,9 @@ abbrev read : After-in_range → Code
 read c = fields c.from-n.result c.from-r.result c.from-q.result c.from-m.result c.from-l.result c.from-t.result (drop 6 c.args.body.now)
 
 fields_read : (c : After-in_range) → open_code c.args.body.now ≡ from2 c.args.body.now (read c)
-fields_read c = opens_fields c.args.body.now _ _ _ _ _ _ c.if-body-lt6.false c.from-n.ensures c.from-r.ensures c.from-q.ensures c.from-m.ensures c.from-l.ensures c.from-t.ensures
+fields_read c =
+    opens_fields c.args.body.now _ _ _ _ _ _ c.if-body-lt6.false c.from-n.ensures c.from-r.ensures c.from-q.ensures c.from-m.ensures c.from-l.ensures
+    c.from-t.ensures
 
 pub returns-then-body-lt6 : goal.returns-then-body-lt6
 unfolding open_code
