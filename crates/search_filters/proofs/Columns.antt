@@ -1,13 +1,9 @@
 -- The multiples of a column, one after the other.
-use mathlib.Core.Path.{◌≡◌, sym, ap, ◌∙◌}
+use mathlib.Core.Path.{◌≡◌, ap, ◌∙◌}
 use Prim.Native.Nat.{ℕ, ◌+◌, ◌*◌, ◌%◌, ◌≤◌, ◌<◌}
-use native.Mathlib.Nat.{mod-add-mod, add-mul, one-mul, zero-mul, zero-mod}
+use native.Mathlib.Nat.{mod-add-mod, add-mul, one-mul}
 use native.Mathlib.Decide.{dec_lt}
 use native.Mathlib.Omega.{arith}
-use lib.ListN.{replicate}
-use Rattle.definitions.specs.Words.{at}
-use Rattle.word_laws.proofs.Filling.{zeros-at}
-use Rattle.search_filters.specs.Filters.{times_of}
 
 pub multiple_more : (M g e x y : ℕ) → x ≡ (g * e) % M → y ≡ (x + e) % M → y ≡ ((g + 1) * e) % M
 multiple_more M g e x y ex ey =

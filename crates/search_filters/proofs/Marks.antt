@@ -1,16 +1,15 @@
 -- The table of last cells: marked magnitude by magnitude and cell by cell, and what it rules out.
 use mathlib.Core.Path.{◌≡◌, sym, ap, ◌∙◌}
 use mathlib.Core.List.{List}
-use Prim.Native.Nat.{ℕ, ◌+◌, ◌*◌, ◌%◌, ◌≤◌, ◌<◌}
+use Prim.Native.Nat.{ℕ, ◌+◌, ◌≤◌, ◌<◌}
 use native.Mathlib.Decide.{dec_lt}
 use native.Mathlib.Omega.{arith}
-use lib.ListN.{length, set, length-set}
+use lib.ListN.{set, length-set}
 use lib.Seq.{get_or-set_same, get_or-set_other}
 use Rattle.std.specs.Prelude.{Option, Some, None, IfSome, IsSomeAnd}
 use Rattle.std.proofs.Common.{Bor}
 use Rattle.definitions.specs.Words.{at}
 use Rattle.definitions.specs.Codes.{Code}
-use Rattle.syndrome.specs.Columns.{column}
 use Rattle.search_filters.specs.Filters.{times_of, multiple_of, NoneFrom, hash_of, LastCells, Marked}
 
 pub hash_same : (f g : ℕ → ℕ) → ((i : ℕ) → f i ≡ g i) → hash_of f ≡ hash_of g
