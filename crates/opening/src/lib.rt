@@ -1,16 +1,28 @@
 // Opening a description: from its bytes to a code as one value, or to a refusal. An opened code has a word's syndrome as a method.
 #![tactic(auto)]
 
-ghost use Rattle.std.specs.Prelude.{◌≡◌, true, List, ℕ, suc, ◌+◌, ◌*◌, ◌^◌, ◌-◌, ◌≤◌, ◌<◌, length};
+ghost use Rattle.std.specs.Prelude.{◌≡◌, true, List, ℕ, suc, ◌+◌, ◌*◌, ◌^◌, ◌-◌, ◌≤◌, ◌<◌, length, drop};
 ghost use Rattle.definitions.specs.Words.{at, sum_to, all_below, all_zero};
 ghost use Rattle.definitions.specs.Codewords.{syndrome_entry, syndrome};
+ghost use Rattle.definitions.specs.Codes.{code_of};
 ghost use Rattle.definitions.specs.Patterns.{binomial, pattern_count};
 ghost use Rattle.definitions.specs.CodeOperations.{in_range, open_code};
 ghost use Rattle.syndrome.specs.Columns.{column, Syndrome, filling_of};
 
 use answers::Refusal;
 
-// An opened code or plane; m is the modulus M. The matrix, r rows of n - r entries, lies in the lent description.
+// The six fields of a description, tested or not; m is the modulus M.
+#[derive(Clone, Copy)]
+pub struct Parameters {
+    pub n: usize,
+    pub r: usize,
+    pub q: usize,
+    pub m: usize,
+    pub l: usize,
+    pub t: usize,
+}
+
+// An opened code or plane: its parameters, in range, and its matrix. The matrix, r rows of n - r entries, lies in the lent description.
 #[derive(Clone, Copy)]
 pub struct Code<'a> {
     pub n: usize,
@@ -58,25 +70,6 @@ pub fn pattern_count(n: usize, l: usize, t: usize) -> u64
     1 + one + two + next_term(two, n, l, 2)
 }
 
-// The ranges of the six fields, which do not look at the matrix.
-#[tactic(auto, unfolding(definitions::specs::CodeOperations::in_range))]
-fn in_range(n: usize, r: usize, q: usize, m: usize, l: usize, t: usize) -> bool
-    ensures { (A : List ℕ) → result ≡ in_range (record { n = n; r = r; q = q; M = m; l = l; t = t; A = A }) }
-{
-    1 <= n
-        && n <= 64
-        && r <= 12
-        && r < n
-        && 2 <= q
-        && q <= 64
-        && 2 <= m
-        && m <= q
-        && 1 <= l
-        && l <= m - 1
-        && t <= 3
-        && t <= n
-}
-
 // The number of entries of a matrix: r rows of n - r.
 pub fn matrix_size(n: usize, r: usize) -> usize
     requires { (n ≤ 64) × (r < n) }
@@ -85,8 +78,70 @@ pub fn matrix_size(n: usize, r: usize) -> usize
     r * (n - r)
 }
 
+impl Parameters {
+    ghost use Rattle.opening.specs.Viewed.{code_with, opened_as, matrix_tested};
+
+    // The six fields at the head of a description.
+    fn read(body: &[u8]) -> Parameters
+        requires { 6 ≤ length body.now }
+        ensures { code_with result (drop 6 body.now) ≡ code_of body.now }
+    {
+        Parameters {
+            n: usize::from(body[0]),
+            r: usize::from(body[1]),
+            q: usize::from(body[2]),
+            m: usize::from(body[3]),
+            l: usize::from(body[4]),
+            t: usize::from(body[5]),
+        }
+    }
+
+    // The ranges of the six fields, which do not look at the matrix.
+    #[tactic(auto, unfolding(definitions::specs::CodeOperations::in_range))]
+    fn in_range(self) -> bool
+        ensures { (A : List ℕ) → result ≡ in_range (code_with self A) }
+    {
+        1 <= self.n
+            && self.n <= 64
+            && self.r <= 12
+            && self.r < self.n
+            && 2 <= self.q
+            && self.q <= 64
+            && 2 <= self.m
+            && self.m <= self.q
+            && 1 <= self.l
+            && self.l <= self.m - 1
+            && self.t <= 3
+            && self.t <= self.n
+    }
+
+    // The last tests of an opening, 4 and 5, of the matrix of a code or a plane whose fields are in range.
+    #[tactic(auto, unfolding(definitions::specs::Patterns::pattern_count))]
+    pub fn with_matrix<'a>(self, matrix: &'a [u8]) -> Result<Code<'a>, Refusal>
+        requires range { in_range (code_with self matrix.now) ≡ true }
+        requires size { length matrix.now ≡ self.r * (self.n - self.r) }
+        ensures { opened_as result ≡ matrix_tested (code_with self matrix.now) }
+    {
+        if !byte_helpers::all_below(self.m, matrix) {
+            return Err(Refusal::EntryTooLarge);
+        }
+        if 4096 < pattern_count(self.n, self.l, self.t) {
+            return Err(Refusal::TooManyPatterns);
+        }
+        Ok(Code {
+            n: self.n,
+            r: self.r,
+            q: self.q,
+            m: self.m,
+            l: self.l,
+            t: self.t,
+            matrix,
+        })
+    }
+}
+
 impl<'a> Code<'a> {
-    ghost use Rattle.opening.specs.Viewed.{code, opened_as, matrix_tested};
+    ghost use Rattle.opening.specs.Viewed.{code, opened_as};
 
     // Open a code's description: the six fields, then the matrix. The answer is the first refusal of 1, 2, 3, 4 and 5 whose case holds.
     pub fn open(body: &'a [u8]) -> Result<Code<'a>, Refusal>
@@ -95,51 +150,14 @@ impl<'a> Code<'a> {
         if body.len() < 6 {
             return Err(Refusal::TooShort);
         }
-        let n = usize::from(body[0]);
-        let r = usize::from(body[1]);
-        let q = usize::from(body[2]);
-        let m = usize::from(body[3]);
-        let l = usize::from(body[4]);
-        let t = usize::from(body[5]);
-        if !in_range(n, r, q, m, l, t) {
+        let parameters = Parameters::read(body);
+        if !parameters.in_range() {
             return Err(Refusal::OutOfRange);
         }
-        if body.len() != 6 + matrix_size(n, r) {
+        if body.len() != 6 + matrix_size(parameters.n, parameters.r) {
             return Err(Refusal::WrongLength);
         }
-        Code::with_matrix(n, r, q, m, l, t, &body[6..])
-    }
-
-    // The last tests of an opening, 4 and 5, of the matrix of a code or a plane whose fields are in range.
-    #[tactic(auto, unfolding(definitions::specs::Patterns::pattern_count))]
-    pub fn with_matrix(
-        n: usize,
-        r: usize,
-        q: usize,
-        m: usize,
-        l: usize,
-        t: usize,
-        matrix: &'a [u8],
-    ) -> Result<Code<'a>, Refusal>
-        requires range { in_range (record { n = n; r = r; q = q; M = m; l = l; t = t; A = matrix.now }) ≡ true }
-        requires size { length matrix.now ≡ r * (n - r) }
-        ensures { opened_as result ≡ matrix_tested (record { n = n; r = r; q = q; M = m; l = l; t = t; A = matrix.now }) }
-    {
-        if !byte_helpers::all_below(m, matrix) {
-            return Err(Refusal::EntryTooLarge);
-        }
-        if 4096 < pattern_count(n, l, t) {
-            return Err(Refusal::TooManyPatterns);
-        }
-        Ok(Code {
-            n,
-            r,
-            q,
-            m,
-            l,
-            t,
-            matrix,
-        })
+        parameters.with_matrix(&body[6..])
     }
 
     // Entry i + 1 of a word's syndrome.

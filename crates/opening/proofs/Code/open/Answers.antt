@@ -3,18 +3,17 @@ use Rattle.definitions.specs.Codes.{Code}
 use Rattle.definitions.specs.CodeOperations.{open_code}
 use Rattle.word_laws.proofs.Filling.{take_rest}
 use Rattle.code_theorems.proofs.Opened.{ranges}
-use Rattle.opening.proofs.Opening.{fields, from2, opens_fields}
+use Rattle.opening.specs.Viewed.{code_with}
+use Rattle.opening.proofs.Opening.{from2, opens}
 use Rattle.opening.proofs.Code.open.Goals as goal
 use Rattle.opening.proofs.Code.open.Goals.{After-in_range}
 
 -- the code whose fields were read
 abbrev read : After-in_range → Code
-read c = fields c.from-n.result c.from-r.result c.from-q.result c.from-m.result c.from-l.result c.from-t.result (drop 6 c.args.body.now)
+read c = code_with c.read-parameters.result (drop 6 c.args.body.now)
 
 fields_read : (c : After-in_range) → open_code c.args.body.now ≡ from2 c.args.body.now (read c)
-fields_read c =
-    opens_fields c.args.body.now _ _ _ _ _ _ c.if-body-lt6.false c.from-n.ensures c.from-r.ensures c.from-q.ensures c.from-m.ensures c.from-l.ensures
-    c.from-t.ensures
+fields_read c = opens c.args.body.now (read c) c.if-body-lt6.false c.read-parameters.ensures
 
 pub returns-then-body-lt6 : goal.returns-then-body-lt6
 unfolding open_code

@@ -1,17 +1,16 @@
 use Rattle.std.proofs.Common.{◌∙◌, sym, arith}
 use Rattle.definitions.specs.Patterns.{pattern_count}
 use Rattle.code_theorems.proofs.Opened.{ranges}
-use Rattle.opening.proofs.Opening.{fields}
-use Rattle.opening.proofs.Code.with_matrix.Goals as goal
+use Rattle.opening.specs.Viewed.{code_with}
+use Rattle.opening.proofs.Parameters.with_matrix.Goals as goal
 
 pub pattern_count-requires : goal.pattern_count-requires
-pattern_count-requires c =
-    let g = ranges (fields c.args.n c.args.r c.args.q c.args.m c.args.l c.args.t c.args.matrix.now) (rw c.requires.range tt) in omega arith
+pattern_count-requires c = let g = ranges (code_with c.args.self c.args.matrix.now) (rw c.requires.range tt) in omega arith
 
 pub invariant_of-result : goal.invariant_of-result
 unfolding pattern_count
 invariant_of-result c =
-    let g = ranges (fields c.args.n c.args.r c.args.q c.args.m c.args.l c.args.t c.args.matrix.now) (rw c.requires.range tt) in
+    let g = ranges (code_with c.args.self c.args.matrix.now) (rw c.requires.range tt) in
     record {
       cells = omega arith;
       levels = omega arith;
