@@ -177,8 +177,8 @@ impl<'a> Code<'a> {
         ensures { Syndrome (code self.now) word.now result }
     {
         let mut s = [0u8; 12];
-        for i in 0..self.r {
-            s[i] = self.syndrome_entry(word, i);
+        for (i, entry) in s[..self.r].iter_mut().enumerate() {
+            *entry = self.syndrome_entry(word, i);
         }
         s
     }
@@ -202,8 +202,8 @@ impl<'a> Code<'a> {
         ensures entry { (i : ℕ) → at result i ≡ column (code self.now) i cell }
     {
         let mut column = [0u8; N];
-        for i in 0..self.r {
-            column[i] = self.column(i, cell) as u8;
+        for (i, entry) in column[..self.r].iter_mut().enumerate() {
+            *entry = self.column(i, cell) as u8;
         }
         column
     }
