@@ -213,12 +213,7 @@ impl<'a> Code<'a> {
         requires { length word.now ≡ self.now.n }
         ensures { result ≡ all_zero (syndrome (code self.now) word.now) }
     {
-        for i in 0..self.r {
-            if self.syndrome_entry(word, i) != 0 {
-                return false;
-            }
-        }
-        true
+        (0..self.r).all(|i| self.syndrome_entry(word, i) == 0)
     }
 
     // What the level of check cell i + 1 is modulo m, so that it makes the syndrome's entry i 0.
