@@ -101,18 +101,19 @@ impl Parameters {
     fn in_range(self) -> bool
         ensures { (A : List ℕ) → result ≡ in_range (code_with self A) }
     {
-        1 <= self.n
-            && self.n <= 64
-            && self.r <= 12
-            && self.r < self.n
-            && 2 <= self.q
-            && self.q <= 64
-            && 2 <= self.m
-            && self.m <= self.q
-            && 1 <= self.l
-            && self.l <= self.m - 1
-            && self.t <= 3
-            && self.t <= self.n
+        let Parameters { n, r, q, m, l, t } = self;
+        1 <= n
+            && n <= 64
+            && r <= 12
+            && r < n
+            && 2 <= q
+            && q <= 64
+            && 2 <= m
+            && m <= q
+            && 1 <= l
+            && l <= m - 1
+            && t <= 3
+            && t <= n
     }
 
     // The last tests of an opening, 4 and 5, of the matrix of a code or a plane whose fields are in range.
@@ -122,26 +123,27 @@ impl Parameters {
         requires size { length matrix.now ≡ self.r * (self.n - self.r) }
         ensures { opened_as result ≡ matrix_tested (code_with self matrix.now) }
     {
-        if !byte_helpers::all_below(self.m, matrix) {
+        let Parameters { n, r, q, m, l, t } = self;
+        if !byte_helpers::all_below(m, matrix) {
             return Err(Refusal::EntryTooLarge);
         }
-        if 4096 < pattern_count(self.n, self.l, self.t) {
+        if 4096 < pattern_count(n, l, t) {
             return Err(Refusal::TooManyPatterns);
         }
         Ok(Code {
-            n: self.n,
-            r: self.r,
-            q: self.q,
-            m: self.m,
-            l: self.l,
-            t: self.t,
+            n,
+            r,
+            q,
+            m,
+            l,
+            t,
             matrix,
         })
     }
 }
 
 impl<'a> Code<'a> {
-    ghost use Rattle.opening.specs.Viewed.{code, opened_as};
+    ghost use Rattle.opening.specs.Viewed.{code, code_with, opened_as};
 
     // Open a code's description: the six fields, then the matrix. The answer is the first refusal of 1, 2, 3, 4 and 5 whose case holds.
     pub fn open(body: &'a [u8]) -> Result<Code<'a>, Refusal>
@@ -158,6 +160,20 @@ impl<'a> Code<'a> {
             return Err(Refusal::WrongLength);
         }
         parameters.with_matrix(&body[6..])
+    }
+
+    // The six fields without the matrix.
+    pub fn parameters(&self) -> Parameters
+        ensures { code_with result self.now.matrix.now ≡ code self.now }
+    {
+        Parameters {
+            n: self.n,
+            r: self.r,
+            q: self.q,
+            m: self.m,
+            l: self.l,
+            t: self.t,
+        }
     }
 
     // Entry i + 1 of a word's syndrome.

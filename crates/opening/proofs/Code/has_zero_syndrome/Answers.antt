@@ -17,5 +17,6 @@ unfolding syndrome
 returns c =
     let p = code c.args.self.now in
     let x = c.args.word.now in
-    all_from_yields_List (λ i. eqb (syndrome_entry p x i) 0) _ _ c.all.result c.all.ensures.ran (YieldsList-from_range 0 p.r p.r refl (sub-zero _)) (λ x b q k. search (rules, tests))
+    let e = YieldsList-from_range 0 p.r p.r refl (sub-zero p.r) in
+    all_from_yields_List (λ i. eqb (syndrome_entry p x i) 0) _ _ c.all.result c.all.ensures.ran e (λ x b q k. search (rules, tests))
     ∙ zeros (syndrome_entry p x) 0 p.r
