@@ -1,7 +1,7 @@
 // Opening a description: from its bytes to a code as one value, or to a refusal. An opened code has a word's syndrome as a method.
 #![tactic(auto)]
 
-ghost use Rattle.std.specs.Prelude.{◌≡◌, true, List, ℕ, suc, ◌+◌, ◌*◌, ◌^◌, ◌-◌, ◌≤◌, ◌<◌, length, drop};
+ghost use Rattle.std.specs.Prelude.{◌≡◌, true, List, ℕ, suc, ◌+◌, ◌*◌, ◌^◌, ◌-◌, ◌≤◌, ◌<◌, length, drop, IsTrue};
 ghost use Rattle.definitions.specs.Words.{at, sum_to, all_below, all_zero};
 ghost use Rattle.definitions.specs.Codewords.{syndrome_entry, syndrome};
 ghost use Rattle.definitions.specs.Codes.{code_of};
@@ -99,7 +99,8 @@ impl Parameters {
     // The ranges of the six fields, which do not look at the matrix.
     #[tactic(auto, unfolding(definitions::specs::CodeOperations::in_range))]
     fn in_range(self) -> bool
-        ensures { (A : List ℕ) → result ≡ in_range (code_with self A) }
+        ensures tested { (A : List ℕ) → result ≡ in_range (code_with self A) }
+        ensures inside { IsTrue result → (self.n ≤ 64) × (self.r < self.n) }
     {
         let Parameters { n, r, q, m, l, t } = self;
         1 <= n
@@ -117,7 +118,7 @@ impl Parameters {
     }
 
     // The last tests of an opening, 4 and 5, of the matrix of a code or a plane whose fields are in range.
-    #[tactic(auto, unfolding(definitions::specs::Patterns::pattern_count))]
+    #[tactic(auto, unfolding(definitions::specs::Patterns::pattern_count, definitions::specs::CodeOperations::in_range))]
     pub fn with_matrix<'a>(self, matrix: &'a [u8]) -> Result<Code<'a>, Refusal>
         requires range { in_range (code_with self matrix.now) ≡ true }
         requires size { length matrix.now ≡ self.r * (self.n - self.r) }
@@ -145,6 +146,7 @@ impl Parameters {
 impl<'a> Code<'a> {
     ghost use Rattle.opening.specs.Viewed.{code, code_with, opened_as};
 
+    #[tactic(auto, unfolding(definitions::specs::CodeOperations::open_code))]
     // Open a code's description: the six fields, then the matrix. The answer is the first refusal of 1, 2, 3, 4 and 5 whose case holds.
     pub fn open(body: &'a [u8]) -> Result<Code<'a>, Refusal>
         ensures { opened_as result ≡ open_code body.now }
