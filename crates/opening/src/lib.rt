@@ -202,6 +202,7 @@ impl<'a> Code<'a> {
     }
 
     // Entry i of the column of a cell: the matrix's, or a check cell's unit column.
+    #[tactic(auto, unfolding(syndrome::specs::Columns::column))]
     pub fn column(&self, i: usize, cell: usize) -> usize
         requires { i < self.now.r }
         ensures { (result ≡ column (code self.now) i cell) × (result < self.now.m) }
