@@ -2,25 +2,27 @@
 // codeword and of a message.
 #![tactic(auto)]
 
-ghost use Rattle.std.specs.Prelude.{◌≡◌, true, ◌/◌, ◌<◌, map, length};
+ghost use Rattle.std.specs.Prelude.{◌≡◌, true, List, ℕ, ◌/◌, ◌<◌, ◌≤◌, map, length};
 ghost use Rattle.definitions.specs.Words.{all_below};
 ghost use Rattle.definitions.specs.Codewords.{is_codeword};
 ghost use Rattle.definitions.specs.Messages.{symbols_fit, encode, message};
-ghost use Rattle.opening.specs.Viewed.{code as the_code};
+ghost use Rattle.opening.specs.Viewed.{code as the_code, code_with};
 
-use opening::Code;
+use opening::{Code, Parameters};
 
-// Whether the symbols are below their bounds.
+// Whether the symbols are below their bounds, which the matrix has no part in.
 #[tactic(auto, unfolding(definitions::specs::Messages::symbols_fit))]
-pub fn symbols_fit(code: &Code, message: &[u8]) -> bool
-    requires { length message.now ≡ code.now.n }
-    ensures { result ≡ symbols_fit (the_code code.now) message.now }
+pub fn symbols_fit(parameters: Parameters, message: &[u8]) -> bool
+    requires { (2 ≤ parameters.m) × (parameters.r ≤ parameters.n) × (length message.now ≡ parameters.n) }
+    ensures { (A : List ℕ) → result ≡ symbols_fit (code_with parameters A) message.now }
 {
-    let w = code.n - code.r;
-    byte_helpers::all_below(code.q, &message[..w])
-        && byte_helpers::all_below(code.q / code.m, &message[w..])
+    let w = parameters.n - parameters.r;
+    byte_helpers::all_below(parameters.q, &message[..w])
+        && byte_helpers::all_below(parameters.q / parameters.m, &message[w..])
 }
 
+// Store the codeword of a message: its data cells are the message's symbols, and each check cell has its symbol times M plus what makes the
+// syndrome's entry 0.
 pub fn store_codeword(code: &Code, message: &[u8], out: &mut [u8])
     requires fits { symbols_fit (the_code code.now) message.now ≡ true }
     requires long { length message.now ≡ code.now.n }

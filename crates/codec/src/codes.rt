@@ -78,7 +78,7 @@ impl<'a> Codec for Code<'a> {
     }
 
     fn message_fits(&self, message: &[u8]) -> bool {
-        code_operations::symbols_fit(self, message)
+        code_operations::symbols_fit(self.parameters(), message)
     }
 
     fn store_codeword(&self, message: &[u8], out: &mut [u8]) {

@@ -123,7 +123,7 @@ pub fn number_of_message(body: &[u8], message: &[u8]) -> Result<u64, Refusal>
     let Ok(numbered) = opened else {
         return Err(opened.unwrap_err());
     };
-    if !code_operations::symbols_fit(&numbered.code, message) {
+    if !code_operations::symbols_fit(numbered.code.parameters(), message) {
         return Err(Refusal::SymbolTooLarge);
     }
     Ok(numbered.number_of(message))

@@ -1,4 +1,2 @@
 -- the number of patterns, term by term
 pub mod Counts
--- opening, over plain variables
-pub mod Opening

@@ -1,5 +1,5 @@
--- An opened code as the definitions have it.
-use Rattle.std.specs.Prelude.{not, Result, ltb}
+-- A code, opened or in parts, as the definitions have it.
+use Rattle.std.specs.Prelude.{not, Result, List, ℕ, ltb}
 use Rattle.definitions.specs.Words.{all_below}
 use Rattle.definitions.specs.Answers.{Answer, given, refuse◌when◌else◌}
 use Rattle.definitions.specs.Codes as codes
@@ -7,6 +7,11 @@ use Rattle.definitions.specs.Patterns.{pattern_count}
 use Rattle.answers.specs.declared.Refusal.{Refusal}
 use Rattle.answers.specs.Answering.{answer_with}
 use Rattle.opening.specs.declared.Code.{Code}
+use Rattle.opening.specs.declared.Parameters.{Parameters}
+
+-- the code with these parameters and this matrix
+abbrev pub code_with : Parameters → List ℕ → codes.Code
+code_with p A = record { n = p.n; r = p.r; q = p.q; M = p.m; l = p.l; t = p.t; A = A }
 
 abbrev pub code : Code → codes.Code
 code p = record { n = p.n; r = p.r; q = p.q; M = p.m; l = p.l; t = p.t; A = p.matrix.now }

@@ -1,16 +1,28 @@
 // Opening a description: from its bytes to a code as one value, or to a refusal. An opened code has a word's syndrome as a method.
 #![tactic(auto)]
 
-ghost use Rattle.std.specs.Prelude.{◌≡◌, true, List, ℕ, suc, ◌+◌, ◌*◌, ◌^◌, ◌-◌, ◌≤◌, ◌<◌, length};
+ghost use Rattle.std.specs.Prelude.{◌≡◌, true, List, ℕ, suc, ◌+◌, ◌*◌, ◌^◌, ◌-◌, ◌≤◌, ◌<◌, length, drop, IsTrue};
 ghost use Rattle.definitions.specs.Words.{at, sum_to, all_below, all_zero};
 ghost use Rattle.definitions.specs.Codewords.{syndrome_entry, syndrome};
+ghost use Rattle.definitions.specs.Codes.{code_of};
 ghost use Rattle.definitions.specs.Patterns.{binomial, pattern_count};
 ghost use Rattle.definitions.specs.CodeOperations.{in_range, open_code};
 ghost use Rattle.syndrome.specs.Columns.{column, Syndrome, filling_of};
 
 use answers::Refusal;
 
-// An opened code or plane; m is the modulus M. The matrix, r rows of n - r entries, lies in the lent description.
+// The six fields of a description, tested or not; m is the modulus M.
+#[derive(Clone, Copy)]
+pub struct Parameters {
+    pub n: usize,
+    pub r: usize,
+    pub q: usize,
+    pub m: usize,
+    pub l: usize,
+    pub t: usize,
+}
+
+// An opened code or plane: its parameters, in range, and its matrix. The matrix, r rows of n - r entries, lies in the lent description.
 #[derive(Clone, Copy)]
 pub struct Code<'a> {
     pub n: usize,
@@ -58,25 +70,6 @@ pub fn pattern_count(n: usize, l: usize, t: usize) -> u64
     1 + one + two + next_term(two, n, l, 2)
 }
 
-// The ranges of the six fields, which do not look at the matrix.
-#[tactic(auto, unfolding(definitions::specs::CodeOperations::in_range))]
-fn in_range(n: usize, r: usize, q: usize, m: usize, l: usize, t: usize) -> bool
-    ensures { (A : List ℕ) → result ≡ in_range (record { n = n; r = r; q = q; M = m; l = l; t = t; A = A }) }
-{
-    1 <= n
-        && n <= 64
-        && r <= 12
-        && r < n
-        && 2 <= q
-        && q <= 64
-        && 2 <= m
-        && m <= q
-        && 1 <= l
-        && l <= m - 1
-        && t <= 3
-        && t <= n
-}
-
 // The number of entries of a matrix: r rows of n - r.
 pub fn matrix_size(n: usize, r: usize) -> usize
     requires { (n ≤ 64) × (r < n) }
@@ -85,46 +78,53 @@ pub fn matrix_size(n: usize, r: usize) -> usize
     r * (n - r)
 }
 
-impl<'a> Code<'a> {
-    ghost use Rattle.opening.specs.Viewed.{code, opened_as, matrix_tested};
+impl Parameters {
+    ghost use Rattle.opening.specs.Viewed.{code_with, opened_as, matrix_tested};
 
-    // Open a code's description: the six fields, then the matrix. The answer is the first refusal of 1, 2, 3, 4 and 5 whose case holds.
-    pub fn open(body: &'a [u8]) -> Result<Code<'a>, Refusal>
-        ensures { opened_as result ≡ open_code body.now }
+    // The six fields at the head of a description.
+    fn read(body: &[u8]) -> Parameters
+        requires { 6 ≤ length body.now }
+        ensures { code_with result (drop 6 body.now) ≡ code_of body.now }
     {
-        if body.len() < 6 {
-            return Err(Refusal::TooShort);
+        Parameters {
+            n: usize::from(body[0]),
+            r: usize::from(body[1]),
+            q: usize::from(body[2]),
+            m: usize::from(body[3]),
+            l: usize::from(body[4]),
+            t: usize::from(body[5]),
         }
-        let n = usize::from(body[0]);
-        let r = usize::from(body[1]);
-        let q = usize::from(body[2]);
-        let m = usize::from(body[3]);
-        let l = usize::from(body[4]);
-        let t = usize::from(body[5]);
-        if !in_range(n, r, q, m, l, t) {
-            return Err(Refusal::OutOfRange);
-        }
-        if body.len() != 6 + matrix_size(n, r) {
-            return Err(Refusal::WrongLength);
-        }
-        Code::with_matrix(n, r, q, m, l, t, &body[6..])
+    }
+
+    // The ranges of the six fields, which do not look at the matrix.
+    #[tactic(auto, unfolding(definitions::specs::CodeOperations::in_range))]
+    fn in_range(self) -> bool
+        ensures tested { (A : List ℕ) → result ≡ in_range (code_with self A) }
+        ensures inside { IsTrue result → (self.n ≤ 64) × (self.r < self.n) }
+    {
+        let Parameters { n, r, q, m, l, t } = self;
+        1 <= n
+            && n <= 64
+            && r <= 12
+            && r < n
+            && 2 <= q
+            && q <= 64
+            && 2 <= m
+            && m <= q
+            && 1 <= l
+            && l <= m - 1
+            && t <= 3
+            && t <= n
     }
 
     // The last tests of an opening, 4 and 5, of the matrix of a code or a plane whose fields are in range.
-    #[tactic(auto, unfolding(definitions::specs::Patterns::pattern_count))]
-    pub fn with_matrix(
-        n: usize,
-        r: usize,
-        q: usize,
-        m: usize,
-        l: usize,
-        t: usize,
-        matrix: &'a [u8],
-    ) -> Result<Code<'a>, Refusal>
-        requires range { in_range (record { n = n; r = r; q = q; M = m; l = l; t = t; A = matrix.now }) ≡ true }
-        requires size { length matrix.now ≡ r * (n - r) }
-        ensures { opened_as result ≡ matrix_tested (record { n = n; r = r; q = q; M = m; l = l; t = t; A = matrix.now }) }
+    #[tactic(auto, unfolding(definitions::specs::Patterns::pattern_count, definitions::specs::CodeOperations::in_range))]
+    pub fn with_matrix<'a>(self, matrix: &'a [u8]) -> Result<Code<'a>, Refusal>
+        requires range { in_range (code_with self matrix.now) ≡ true }
+        requires size { length matrix.now ≡ self.r * (self.n - self.r) }
+        ensures { opened_as result ≡ matrix_tested (code_with self matrix.now) }
     {
+        let Parameters { n, r, q, m, l, t } = self;
         if !byte_helpers::all_below(m, matrix) {
             return Err(Refusal::EntryTooLarge);
         }
@@ -140,6 +140,42 @@ impl<'a> Code<'a> {
             t,
             matrix,
         })
+    }
+}
+
+impl<'a> Code<'a> {
+    ghost use Rattle.opening.specs.Viewed.{code, code_with, opened_as};
+
+    #[tactic(auto, unfolding(definitions::specs::CodeOperations::open_code))]
+    // Open a code's description: the six fields, then the matrix. The answer is the first refusal of 1, 2, 3, 4 and 5 whose case holds.
+    pub fn open(body: &'a [u8]) -> Result<Code<'a>, Refusal>
+        ensures { opened_as result ≡ open_code body.now }
+    {
+        if body.len() < 6 {
+            return Err(Refusal::TooShort);
+        }
+        let parameters = Parameters::read(body);
+        if !parameters.in_range() {
+            return Err(Refusal::OutOfRange);
+        }
+        if body.len() != 6 + matrix_size(parameters.n, parameters.r) {
+            return Err(Refusal::WrongLength);
+        }
+        parameters.with_matrix(&body[6..])
+    }
+
+    // The six fields without the matrix.
+    pub fn parameters(&self) -> Parameters
+        ensures { code_with result self.now.matrix.now ≡ code self.now }
+    {
+        Parameters {
+            n: self.n,
+            r: self.r,
+            q: self.q,
+            m: self.m,
+            l: self.l,
+            t: self.t,
+        }
     }
 
     // Entry i + 1 of a word's syndrome.
@@ -159,13 +195,14 @@ impl<'a> Code<'a> {
         ensures { Syndrome (code self.now) word.now result }
     {
         let mut s = [0u8; 12];
-        for i in 0..self.r {
-            s[i] = self.syndrome_entry(word, i);
+        for (i, entry) in s[..self.r].iter_mut().enumerate() {
+            *entry = self.syndrome_entry(word, i);
         }
         s
     }
 
     // Entry i of the column of a cell: the matrix's, or a check cell's unit column.
+    #[tactic(auto, unfolding(syndrome::specs::Columns::column))]
     pub fn column(&self, i: usize, cell: usize) -> usize
         requires { i < self.now.r }
         ensures { (result ≡ column (code self.now) i cell) × (result < self.now.m) }
@@ -184,8 +221,8 @@ impl<'a> Code<'a> {
         ensures entry { (i : ℕ) → at result i ≡ column (code self.now) i cell }
     {
         let mut column = [0u8; N];
-        for i in 0..self.r {
-            column[i] = self.column(i, cell) as u8;
+        for (i, entry) in column[..self.r].iter_mut().enumerate() {
+            *entry = self.column(i, cell) as u8;
         }
         column
     }
@@ -195,12 +232,7 @@ impl<'a> Code<'a> {
         requires { length word.now ≡ self.now.n }
         ensures { result ≡ all_zero (syndrome (code self.now) word.now) }
     {
-        for i in 0..self.r {
-            if self.syndrome_entry(word, i) != 0 {
-                return false;
-            }
-        }
-        true
+        (0..self.r).all(|i| self.syndrome_entry(word, i) == 0)
     }
 
     // What the level of check cell i + 1 is modulo m, so that it makes the syndrome's entry i 0.

@@ -121,7 +121,7 @@ impl<'a> Packing<'a> {
         if !buffers_fit(message.len(), self.code.n, out.len(), self.byte_count()) {
             return Err(Refusal::WrongBuffer);
         }
-        if !code_operations::symbols_fit(&self.code, message) {
+        if !code_operations::symbols_fit(self.code.parameters(), message) {
             return Err(Refusal::SymbolTooLarge);
         }
         self.store_bytes(message, out);

@@ -4,7 +4,7 @@ ghost use Rattle.definitions.specs.StackOperations.{plane_in_range, open_plane};
 ghost use Rattle.opening.specs.Viewed.{opened_as};
 
 use answers::Refusal;
-use opening::Code;
+use opening::{Code, Parameters};
 
 // An opened plane: as a code, q = M = c and l = c - 1; and its place value w, the product of the c of the planes before it.
 #[derive(Clone, Copy)]
@@ -61,5 +61,13 @@ pub fn open_plane<'a>(n: usize, bytes: &'a [u8]) -> Result<Code<'a>, Refusal>
     if bytes.len() < end {
         return Err(Refusal::WrongLength);
     }
-    Code::with_matrix(n, r, c, c, c - 1, t, &bytes[3..end])
+    let parameters = Parameters {
+        n,
+        r,
+        q: c,
+        m: c,
+        l: c - 1,
+        t,
+    };
+    parameters.with_matrix(&bytes[3..end])
 }

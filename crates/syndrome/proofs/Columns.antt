@@ -1,20 +1,20 @@
 -- Columns, and the entries of a syndrome beyond the matrix.
 use mathlib.Core.Path.{◌≡◌, refl, sym, ap, ap₂, ◌∙◌}
 use mathlib.Core.Bool.{Bool, true, false, cond}
-use mathlib.Core.List.{List, map}
+use mathlib.Core.List.{List, ◌++◌}
 use Prim.Native.Nat.{ℕ, zero, suc, ◌+◌, ◌*◌, ◌-◌, ◌%◌, ◌≤◌, ◌<◌}
 use native.Mathlib.Nat.{zero-mul, mod-eq_of_lt, mul-le-mul_right}
 use native.Mathlib.Decide.{dec_lt}
-use native.Mathlib.Numerals.{add-one}
 use native.Mathlib.Omega.{arith}
 use lib.Dec.{eqb, ltb}
-use lib.ListN.{length}
+use lib.ListN.{length, drop, replicate}
+use Rattle.std.proofs.lemmas.List.{get_or_append_left, get_or-append_right, get_or-drop}
 use borrow.Author.Tests.{lt-ltb, le-ltb, eq-eqb, ne_eqb}
-use Rattle.definitions.specs.Words.{at, sum_to, up_from, all_zero, EachCell}
+use Rattle.definitions.specs.Words.{at, sum_to, EachCell}
 use Rattle.definitions.specs.Codes.{Code, data_cells}
 use Rattle.definitions.specs.Codewords.{syndrome_entry}
 use Rattle.word_laws.proofs.Cells.{at-past, each_at}
-use Rattle.syndrome.specs.Columns.{column, Syndrome}
+use Rattle.syndrome.specs.Columns.{column}
 
 pub sum-zero : (w : ℕ) (f : ℕ → ℕ) → ((j : ℕ) → j < w → f j ≡ 0) → sum_to w f ≡ 0
 sum-zero zero f h = refl
@@ -64,15 +64,24 @@ entry_past p x i la lx rn m h =
         let g : p.r * w ≤ i * w = mul-le-mul_right w h in
         ap (λ (v : ℕ). v * at x j) (at-past p.A (i * w + j) (omega arith)) ∙ zero-mul (at x j)
 
--- a column that was stored entry by entry below r, with 0 from r on
-pub all_column :
-    (p : Code) (c : ℕ) (s : List ℕ) → length p.A ≡ p.r * data_cells p → c < p.n → (r : ℕ) → p.r ≤ r
-    → ((j : ℕ) → j < r → at s j ≡ column p j c) → ((j : ℕ) → r ≤ j → at s j ≡ 0) → (j : ℕ) → at s j ≡ column p j c
-all_column p c s la h r g done left j = step (dec_lt j r)
+zeros : (n j : ℕ) → at (replicate n 0) j ≡ 0
+zeros zero j = refl
+zeros (suc n) zero = refl
+zeros (suc n) (suc j) = zeros n j
+
+-- the first r of N entries that were 0 were stored, and f is 0 from r on
+pub stored_first :
+    (f : ℕ → ℕ) (s : List ℕ) (r N : ℕ) → length s ≡ r → ((j : ℕ) → j < r → at s j ≡ f j) → ((j : ℕ) → r ≤ j → f j ≡ 0)
+    → (i : ℕ) → at (s ++ drop r (replicate N 0)) i ≡ f i
+stored_first f s r N long done left i = step (dec_lt i r)
   where
-    step : Dec (j < r) → at s j ≡ column p j c
-    step (yes b) = done j b
-    step (no b) = left j (omega arith) ∙ sym (column-past p j c la (omega arith) h)
+    step : Dec (i < r) → at (s ++ drop r (replicate N 0)) i ≡ f i
+    step (yes h) = get_or_append_left s (drop r (replicate N 0)) 0 i (omega arith) ∙ done i h
+    step (no h) =
+        get_or-append_right s (drop r (replicate N 0)) r i 0 long (omega arith)
+        ∙ get_or-drop r (replicate N 0) (i - r) 0
+        ∙ zeros N (r + (i - r))
+        ∙ sym (left i (omega arith))
 
 -- a column's entry by the cell's kind
 module _ (p : Code) (i c : ℕ) where
@@ -87,20 +96,3 @@ module _ (p : Code) (i c : ℕ) where
   pub column-other : data_cells p ≤ c → (c ≡ data_cells p + i → ⊥) → 0 ≡ column p i c
   unfolding column
   column-other h e = simp (le-ltb c (data_cells p) h, ne_eqb c (data_cells p + i) e)
-
-pub all_entries :
-    (p : Code) (x s : List ℕ) → length p.A ≡ p.r * data_cells p → length x ≡ p.n → p.r ≤ p.n → 0 < p.M → (r : ℕ) → p.r ≤ r
-    → ((j : ℕ) → j < r → at s j ≡ syndrome_entry p x j) → ((j : ℕ) → r ≤ j → at s j ≡ 0) → Syndrome p x s
-all_entries p x s la lx rn m r g done left j = step (dec_lt j r)
-  where
-    step : Dec (j < r) → at s j ≡ syndrome_entry p x j
-    step (yes b) = done j b
-    step (no b) = left j (omega arith) ∙ sym (entry_past p x j la lx rn m (omega arith))
-
--- the entries from the one numbered i on: is each of r 0?
-module _ (f : ℕ → ℕ) (r i : ℕ) where
-  abbrev pub zeros_from : Bool
-  zeros_from = all_zero (map f (up_from i (r - i)))
-
-pub zero_miss : (f : ℕ → ℕ) (r i : ℕ) → i < r → f i ≡ 0 → zeros_from f r i ≡ zeros_from f r (i + 1)
-zero_miss f r i h g = let e : r - i ≡ suc (r - suc i) = omega arith in rw (add-one, e, eq-eqb (f i) 0 g)

@@ -1,7 +1,7 @@
 use Rattle.std.proofs.Common.{◌∙◌, rules}
 use Rattle.opening.specs.Viewed.{code}
 use Rattle.definitions.proofs.Tests.{below_each}
-use Rattle.syndrome.proofs.Columns.{column_data, column_unit, column-other, column-below}
+use Rattle.syndrome.proofs.Columns.{column_data, column-below}
 use Rattle.opening.proofs.Code.column.Goals as goal
 
 pub returns-then-cell-w : goal.returns-then-cell-w
@@ -9,9 +9,3 @@ returns-then-cell-w c =
     let p = code c.args.self.now in
     let e = c.from.ensures ∙ column_data p _ _ c.if-cell-w.true in
     (e, rw e (column-below p _ _ (search rules) (below_each p.M p.A (rw c.args.self.now.entries tt))))
-
-pub returns-then-cell-w-2 : goal.returns-then-cell-w-2
-returns-then-cell-w-2 c = (column_unit (code c.args.self.now) _ _ c.if-cell-w.false c.if-cell-w-2.true, search rules)
-
-pub returns-else-cell-w-2 : goal.returns-else-cell-w-2
-returns-else-cell-w-2 c = (column-other (code c.args.self.now) _ _ c.if-cell-w.false c.if-cell-w-2.false, search rules)

@@ -1,9 +1,11 @@
-use Rattle.std.proofs.Common.{rules}
+use Rattle.std.proofs.Common.{arith, rules}
+use Rattle.syndrome.specs.Columns.{column}
 use Rattle.opening.specs.Viewed.{code}
-use Rattle.syndrome.proofs.Columns.{all_column}
+use Rattle.syndrome.proofs.Columns.{stored_first, column-past}
 use Rattle.opening.proofs.Code.column_of.Goals as goal
 
 pub returns-clause-entry : goal.returns-clause-entry
 returns-clause-entry g c =
-    all_column (code c.args.self.now) c.args.cell c.loop-i.column c.args.self.now.size c.requires.0 c.loop-i.i (search rules)
-    c.loop-i.invariant.done c.loop-i.invariant.left
+    let p = code c.args.self.now in
+    stored_first (λ j. column p j c.args.cell) c.loop-i.entry-items p.r g.row.N (search rules) (λ j h. c.loop-i.invariant j (omega arith))
+    (λ j h. column-past p j c.args.cell c.args.self.now.size h c.requires.0)

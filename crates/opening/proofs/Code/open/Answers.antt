@@ -1,52 +1,18 @@
-use Rattle.std.proofs.Common.{◌≡◌, ◌∙◌, sym, drop, arith, lt-ltb, eq-eqb, ne_eqb}
-use Rattle.definitions.specs.Codes.{Code}
-use Rattle.definitions.specs.CodeOperations.{open_code}
-use Rattle.word_laws.proofs.Filling.{take_rest}
-use Rattle.code_theorems.proofs.Opened.{ranges}
-use Rattle.opening.proofs.Opening.{fields, from2, opens_fields}
+use Rattle.std.proofs.Common.{◌≡◌, ◌∙◌, sym, true, List, ℕ, ◌+◌, ◌*◌, ◌≤◌, length, drop, arith, le-ltb, eq-eqb}
+use Rattle.std.proofs.lemmas.List.{take_rest}
+use Rattle.definitions.specs.Codes.{Code, code_of, data_cells}
+use Rattle.definitions.specs.CodeOperations.{in_range, open_code}
+use Rattle.opening.specs.Viewed.{matrix_tested}
 use Rattle.opening.proofs.Code.open.Goals as goal
-use Rattle.opening.proofs.Code.open.Goals.{After-in_range}
 
--- the code whose fields were read
-abbrev read : After-in_range → Code
-read c = fields c.from-n.result c.from-r.result c.from-q.result c.from-m.result c.from-l.result c.from-t.result (drop 6 c.args.body.now)
-
-fields_read : (c : After-in_range) → open_code c.args.body.now ≡ from2 c.args.body.now (read c)
-fields_read c =
-    opens_fields c.args.body.now _ _ _ _ _ _ c.if-body-lt6.false c.from-n.ensures c.from-r.ensures c.from-q.ensures c.from-m.ensures c.from-l.ensures
-    c.from-t.ensures
-
-pub returns-then-body-lt6 : goal.returns-then-body-lt6
+-- past the tests for 1, 2 and 3
+opens :
+    (b : List ℕ) (p : Code) → p ≡ code_of b → 6 ≤ length b → in_range p ≡ true → length b ≡ 6 + p.r * data_cells p → matrix_tested p ≡ open_code b
 unfolding open_code
-returns-then-body-lt6 c = rw (lt-ltb _ _ c.if-body-lt6.true)
-
-pub returns-then-not-in_range : goal.returns-then-not-in_range
-returns-then-not-in_range c =
-    rw (fields_read (goal.at.returns-then-not-in_range c).After-in_range, ← c.in_range.ensures (drop 6 c.args.body.now), c.if-not-in_range.true)
-
-pub matrix_size-requires : goal.matrix_size-requires
-matrix_size-requires c =
-    let e = sym (c.in_range.ensures (drop 6 c.args.body.now)) ∙ c.if-not-in_range.false in
-    let g = ranges (read (goal.at.matrix_size-requires c).After-in_range) (rw e tt) in
-    omega arith
-
-pub returns-then-body-matrix_size : goal.returns-then-body-matrix_size
-returns-then-body-matrix_size c =
-    rw (
-      fields_read (goal.at.returns-then-body-matrix_size c).After-in_range,
-      ← c.in_range.ensures (drop 6 c.args.body.now),
-      c.if-not-in_range.false,
-      ← c.matrix_size.ensures.0,
-      ne_eqb _ _ c.if-body-matrix_size.true,
-    )
+opens b p e h i s = rw (e, le-ltb (length b) 6 h, rw e at i, eq-eqb _ _ (rw e at s))
 
 pub returns : goal.returns
 returns c =
     let b = c.args.body.now in
-    rw (
-      fields_read (goal.at.returns c).After-in_range,
-      ← c.in_range.ensures (drop 6 b),
-      c.if-not-in_range.false,
-      ← c.matrix_size.ensures.0,
-      eq-eqb _ _ c.if-body-matrix_size.false,
-    ) (rw (take_rest 6 b) at c.with_matrix.ensures)
+    let i = sym (c.in_range.ensures.tested (drop 6 b)) ∙ c.if-not-in_range.false in
+    (rw (take_rest b 6) at c.with_matrix.ensures) ∙ opens b _ c.read-parameters.ensures c.if-body-lt6.false i (omega arith)
