@@ -1,6 +1,6 @@
 -- What remains of the syndrome as the magnitude of a cell grows from 0.
 use mathlib.Core.Path.{◌≡◌, refl, sym, ap, ◌∙◌, subst}
-use mathlib.Core.List.{List}
+use mathlib.Core.List.{List, ◌++◌}
 use Prim.Native.Nat.{ℕ, ◌+◌, ◌*◌, ◌-◌, ◌%◌, ◌≤◌, ◌<◌}
 use native.Mathlib.Nat.{add-mod-mod}
 use native.Mathlib.Omega.{arith}
@@ -16,12 +16,13 @@ use Rattle.syndrome.proofs.Columns.{column-below}
 use Rattle.candidate_patterns.specs.declared.Risen.{Risen}
 use Rattle.candidate_patterns.specs.declared.asked.Asked.{Asked}
 use Rattle.search.specs.declared.Choices.{Choices}
-use Rattle.search.specs.Search.{Reached}
+use Rattle.search.specs.Search.{Reached, cells_from, magnitudes_from}
 use Rattle.candidate_patterns.specs.Candidates.{magnitude_of, magnitude_at, word_of, added, Chosen, Remains}
 use Rattle.candidate_patterns.proofs.Choices.{of_more, added-at, added_none, word_same, chosen-added}
 use Rattle.candidate_patterns.proofs.Syndromes.{Raised, entry-raised, remains_same}
 use Rattle.search_filters.specs.Filters.{less_modulo}
 use Rattle.search_filters.proofs.Differences.{less_below, less_adds}
+use Rattle.search.proofs.Order.{mag_more}
 
 -- the magnitude of a cell is one more
 remains-lowered :
@@ -68,17 +69,25 @@ module _ (p : codes.Code) (s : List ℕ) (k : Risen) (left cell : ℕ) (ch : Cho
 pub columns_below : (p : Code) (cell i : ℕ) → column (viewed.code p) i cell < p.m
 columns_below p cell i = column-below (viewed.code p) i cell (omega arith) (below_each p.m p.matrix.now (rw p.entries tt))
 
--- in the search's terms: the choices once the cell has the magnitude g, the next after mag
-pub reached_after :
-    (a : Asked) (k : Choices) (rest : List ℕ) → Reached a k rest → 1 ≤ k.left → k.cell < a.code.n → (mag g : ℕ) → mag + 1 ≡ g → (tried : ℕ)
-    → (entries next lowered : List ℕ) → ((i : ℕ) → at entries i ≡ column (viewed.code a.code) i k.cell)
-    → ((i : ℕ) → at lowered i ≡ less_modulo a.code.m (at next i) (at entries i)) → Remains (viewed.code a.code) a.s (added k.risen k.cell mag) next
+-- the cell has the magnitude g: the choices then, and the patterns still to be tried in two parts
+pub with_magnitude :
+    (a : Asked) (k : Choices) (rest : List ℕ) → Reached a k rest × (1 ≤ k.left) × (k.cell < a.code.n) → (g : ℕ) → 1 ≤ g → g ≤ a.code.l
+    → (tried : ℕ) (entries next lowered : List ℕ) → ((i : ℕ) → at entries i ≡ column (viewed.code a.code) i k.cell)
+    → ((i : ℕ) → at lowered i ≡ less_modulo a.code.m (at next i) (at entries i))
+    → Remains (viewed.code a.code) a.s (added k.risen k.cell (g - 1)) next
     → Reached a (record { risen = added k.risen k.cell g; left = k.left - 1; cell = k.cell + 1; tried = tried }) lowered
-reached_after a k rest reached one here mag g e tried entries next lowered is less r = record {
-  chosen = chosen-added k.risen k.left k.cell g reached.chosen one;
-  cells = omega arith;
-  remains =
-      rw (← e)
-      (remains-next (viewed.code a.code) a.s k.risen k.left k.cell reached.chosen one mag next lowered here (columns_below a.code k.cell) r
-      (λ i. less i ∙ ap (less_modulo a.code.m (at next i)) (is i)));
-}
+    × (magnitudes_from (viewed.code a.code) k.risen k.left k.cell (g - 1)
+    ≡ cells_from (viewed.code a.code) (added k.risen k.cell g) (k.left - 1) (k.cell + 1) ++ magnitudes_from (viewed.code a.code) k.risen k.left k.cell g)
+with_magnitude a k rest (reached, one, here) g low high tried entries next lowered is less r =
+    let p = viewed.code a.code in
+    let e : g - 1 + 1 ≡ g = omega arith in (
+      record {
+        chosen = chosen-added k.risen k.left k.cell g reached.chosen one;
+        cells = omega arith;
+        remains =
+            rw (← e)
+            (remains-next p a.s k.risen k.left k.cell reached.chosen one (g - 1) next lowered here (columns_below a.code k.cell) r
+            (λ i. less i ∙ ap (less_modulo a.code.m (at next i)) (is i)));
+      },
+      mag_more p k.risen k.left k.cell (g - 1) g e high reached.chosen one,
+    )

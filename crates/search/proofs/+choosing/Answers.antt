@@ -6,9 +6,9 @@ use Rattle.candidate_patterns.specs.Candidates.{added, test_for}
 use Rattle.candidate_patterns.proofs.Choices.{chosen-next}
 use Rattle.opening.specs.Viewed.{code}
 use Rattle.search.specs.Search.{Reached, cells_from, magnitudes_from, seek, sought_as}
-use Rattle.search.proofs.Order.{cell_more, cell_none, mag_more, mag_none, room-first, room_next, seek_none, seek_skip}
+use Rattle.search.proofs.Order.{cell_more, cell_none, mag_none, room-first, room_next, seek_none, seek_skip}
 use Rattle.search.proofs.Steps.{part_hit}
-use Rattle.search.proofs.Remaining.{remains_start, columns_below, reached_after}
+use Rattle.search.proofs.Remaining.{remains_start, columns_below, with_magnitude}
 use Rattle.search.proofs.Ruled.{tried_as, cell_ruled, passed_over, went_on}
 use Rattle.search.proofs.+choosing.Goals as goal
 use Rattle.search.proofs.+choosing.Goals.{choose_cell-then-cannot_end_at, choose_cell-else-cannot_end_at+in_ok-tried}
@@ -22,9 +22,8 @@ choose_cell-choose_magnitude-requires t c =
     let h = c.loop-cell-test.true in
     let reached : Reached c.args.a.now (record { risen = k.risen; left = k.left; cell = l.cell; tried = l.tried }) c.args.rest.now =
     record { chosen = l.invariant.chosen; cells = omega arith; remains = c.requires.reached.remains } in
-    let room = room-first _ _ _ l.tried 4096 (cell_more (code c.args.a.now.code) k.risen k.left l.cell some h l.invariant.chosen) l.invariant.room in
     let falls : 2 * k.left - 1 < t = let m = c.decreases in omega arith in
-    (falls, ((reached, some, h), (room, c.requires.table)))
+    (falls, ((reached, some, h), (room-first _ _ _ l.tried 4096 (cell_more (code c.args.a.now.code) k.risen k.left l.cell some h l.invariant.chosen) l.invariant.room, c.requires.table)))
 
 pub choose_cell-returns-in_err-tried : goal.choose_cell-returns-in_err-tried
 choose_cell-returns-in_err-tried t c =
@@ -90,9 +89,7 @@ choose_magnitude-choose_cell-requires t c =
     let a = c.args.a.now in
     let k = c.args.k in
     let l = c.loop-magnitude in
-    let (reached, some, cell) = c.requires.reached in
-    let split = mag_more (code a.code) k.risen k.left k.cell (l.magnitude - 1) l.magnitude (omega arith) c.loop-magnitude-test.true reached.chosen some in
-    let after = reached_after a k c.args.rest.now reached some cell (l.magnitude - 1) l.magnitude (omega arith) l.tried _ l.next _
+    let (after, split) = with_magnitude a k c.args.rest.now c.requires.reached l.magnitude l.auto.magnitude c.loop-magnitude-test.true l.tried _ l.next _
     c.column_of-column.ensures.entry c.lowered-y.ensures l.invariant.remains in
     let falls : 2 * (k.left - 1) < t = let m = c.decreases in omega arith in
     (falls, (after, (room-first _ _ _ l.tried 4096 split l.invariant.room, c.requires.table)))
@@ -102,9 +99,9 @@ choose_magnitude-returns-in_err-tried t c =
     let a = c.args.a.now in
     let k = c.args.k in
     let l = c.loop-magnitude in
-    let (reached, some, cell) = c.requires.reached in
+    let (after, split) = with_magnitude a k c.args.rest.now c.requires.reached l.magnitude l.auto.magnitude c.loop-magnitude-test.true l.tried _ l.next _
+    c.column_of-column.ensures.entry c.lowered-y.ensures l.invariant.remains in
     let given = c.branch-tried.ensures ∙ ap control_flow_from_branch c.in_err-tried.is in
-    let split = mag_more (code a.code) k.risen k.left k.cell (l.magnitude - 1) l.magnitude (omega arith) c.loop-magnitude-test.true reached.chosen some in
     ap (sought_as a.code.n) (c.from_residual.ensures ∙ sym given) ∙ part_hit a.code.n (test_for a) _ _ _ l.tried split _ _ given c.choose_cell.ensures
     ∙ sym l.invariant.same
 
@@ -113,11 +110,10 @@ choose_magnitude-loop-magnitude-preserved t c =
     let a = c.args.a.now in
     let k = c.args.k in
     let l = c.loop-magnitude in
-    let (reached, some, cell) = c.requires.reached in
-    let split = mag_more (code a.code) k.risen k.left k.cell (l.magnitude - 1) l.magnitude (omega arith) c.loop-magnitude-test.true reached.chosen some in
-    let after = reached_after a k c.args.rest.now reached some cell (l.magnitude - 1) l.magnitude (omega arith) l.tried _ l.next _
+    let (after, split) = with_magnitude a k c.args.rest.now c.requires.reached l.magnitude l.auto.magnitude c.loop-magnitude-test.true l.tried _ l.next _
     c.column_of-column.ensures.entry c.lowered-y.ensures l.invariant.remains in
-    let gave : (none, c.if-cannot_end_from.tried) ≡ seek (test_for a) (cells_from (code a.code) (added k.risen k.cell l.magnitude) (k.left - 1) (k.cell + 1)) l.tried =
+    let gave : (none, c.if-cannot_end_from.tried)
+    ≡ seek (test_for a) (cells_from (code a.code) (added k.risen k.cell l.magnitude) (k.left - 1) (k.cell + 1)) l.tried =
     elim c.if-cannot_end_from.branch [
       | choose_magnitude-then-cannot_end_from w ↦
           passed_over a _ _ _ after c.requires.table (c.cannot_end_from.ensures w.if-cannot_end_from.true) _ _ c.times-all.ensures.0 w.tried-is
@@ -136,11 +132,10 @@ choose_magnitude-returns-after-cannot_end_from t c =
     let a = c.args.a.now in
     let k = c.args.k in
     let l = c.loop-magnitude in
-    let (reached, some, cell) = c.requires.reached in
-    let split = mag_more (code a.code) k.risen k.left k.cell (l.magnitude - 1) l.magnitude (omega arith) c.loop-magnitude-test.true reached.chosen some in
-    let after = reached_after a k c.args.rest.now reached some cell (l.magnitude - 1) l.magnitude (omega arith) l.tried _ l.next _
+    let (after, split) = with_magnitude a k c.args.rest.now c.requires.reached l.magnitude l.auto.magnitude c.loop-magnitude-test.true l.tried _ l.next _
     c.column_of-column.ensures.entry c.lowered-y.ensures l.invariant.remains in
-    let gave : (none, c.if-cannot_end_from.tried) ≡ seek (test_for a) (cells_from (code a.code) (added k.risen k.cell l.magnitude) (k.left - 1) (k.cell + 1)) l.tried =
+    let gave : (none, c.if-cannot_end_from.tried)
+    ≡ seek (test_for a) (cells_from (code a.code) (added k.risen k.cell l.magnitude) (k.left - 1) (k.cell + 1)) l.tried =
     elim c.if-cannot_end_from.branch [
       | choose_magnitude-then-cannot_end_from w ↦
           passed_over a _ _ _ after c.requires.table (c.cannot_end_from.ensures w.if-cannot_end_from.true) _ _ c.times-all.ensures.0 w.tried-is
