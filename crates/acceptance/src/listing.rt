@@ -15,7 +15,7 @@ pub fn list_patterns(columns: &Columns, listed: &mut Listed)
     ensures { Stored (syndromes (the_code columns.now.code)) listed.old listed.new }
 {
     let unrisen = [0u8; 16];
-    for w in 0..columns.code.t + 1 {
+    for w in 0..=columns.code.t {
         choose_cell(columns, w, 0, &unrisen, listed);
     }
 }
@@ -44,7 +44,7 @@ fn choose_magnitude(columns: &Columns, left: usize, cell: usize, s: &[u8; 16], l
     ensures { Stored (raised_from (the_code columns.now.code) left cell s.now 0) listed.old listed.new }
 {
     let mut x = *s;
-    for mag in 0..columns.code.l {
+    for _ in 0..columns.code.l {
         x = columns.raise(cell, &x);
         choose_cell(columns, left - 1, cell + 1, &x, listed);
     }

@@ -21,18 +21,27 @@ pub fn add_modulo(m: u8, a: u8, e: u8) -> u8
     if sum < m { sum } else { sum - m }
 }
 
-// Each entry of s with that of a column added modulo m. A loop: with `array::from_fn` the proof did not close, since
-// it is told each call with some state of the closure only.
+// f of the two entries at each place. A loop: with `array::from_fn` the proof did not close, since it is told each call
+// with some state of the closure only.
+pub fn entrywise<const N: usize, F: Fn(u8, u8) -> u8>(a: &[u8; N], b: &[u8; N], f: F) -> [u8; N]
+    requires { (i : ℕ) → i < N → F.pre f (at a.now i) (at b.now i) }
+    ensures long { length result ≡ N }
+    ensures entry { (i : ℕ) → i < N → F.post f (at a.now i) (at b.now i) (at result i) }
+{
+    let mut x = *a;
+    for i in 0..N {
+        x[i] = f(a[i], b[i]);
+    }
+    x
+}
+
+// Each entry of s with that of a column added modulo m.
 pub fn add_entries<const N: usize>(m: u8, s: &[u8; N], column: &[u8; N]) -> [u8; N]
     requires { (m ≤ 64) × ((i : ℕ) → i < N → at s.now i < m) × ((i : ℕ) → i < N → at column.now i < m) }
     ensures long { length result ≡ N }
     ensures entry { (i : ℕ) → at result i ≡ (at s.now i + at column.now i) % m }
 {
-    let mut x = *s;
-    for i in 0..N {
-        x[i] = add_modulo(m, s[i], column[i]);
-    }
-    x
+    entrywise(s, column, |a, e| add_modulo(m, a, e))
 }
 
 // Whether each byte is below a bound: by the largest, since a loop with one exit runs on many bytes at a time.

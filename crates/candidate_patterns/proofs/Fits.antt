@@ -11,6 +11,9 @@ use lib.ListN.{length, replicate, drop, length-drop}
 use lib.Pointwise.{pointwise}
 use lib.Seq.{get_or-drop}
 use borrow.Author.Tests.{ltb-true, ltb-false, le-ltb, eqb-true}
+use Rattle.std.specs.Bool.{MatchBool}
+use Rattle.std.specs.List.{range_with_len, AllWithin, HoldsAt}
+use Rattle.std.proofs.lemmas.List.FromFn.{length-range_with_len, get_or-range_with_len}
 use Rattle.definitions.specs.Words.{at, up_from, subtract, nowhere_above, all_below, all_zero, EachCell, EachPair}
 use Rattle.definitions.specs.Codes.{Code, data_cells}
 use Rattle.definitions.specs.Codewords.{syndrome_entry, syndrome, ceiling, is_codeword}
@@ -19,7 +22,7 @@ use Rattle.definitions.proofs.Tests.{and_left, and_right, and_both, eq_test, sam
 use Rattle.word_laws.proofs.Cells.{at-past, at-map2, length-map2, each_at, at_each, up_from_bounds, up_from_mem, same_map, map-zero}
 use Rattle.word_laws.proofs.Remainders.{cancel}
 use Rattle.candidate_patterns.specs.declared.Risen.{Risen}
-use Rattle.candidate_patterns.specs.Candidates.{magnitude_at, word_of, rise_at}
+use Rattle.candidate_patterns.specs.Candidates.{magnitude_at, word_of, no_rise, rise_at}
 use Rattle.candidate_patterns.proofs.Choices.{word_at, word-past, length-word, chosen_or_none}
 use Rattle.code_theorems.proofs.Syndromes.{syndrome-below, syndrome-add}
 
@@ -130,53 +133,77 @@ module _ (p : Code) (y e : List ℕ) (ly : length y ≡ p.n) (le : length e ≡ 
           cancel p.M (syndrome_entry p e k) (syndrome_entry p s k) (syndrome-below p m e k) (syndrome-below p m s k)
           (same_each p y e same k b ∙ syndrome-add p y s e (λ j. ap (λ (v : ℕ). v % p.M) (sum j)) k)
 
+-- a pattern is above the word at cell i
+abbrev pub is_above_at : List ℕ → Risen → ℕ → Bool
+is_above_at y k i = ltb (at y i) (at (word_of (length y) k) i)
+
 -- the same of a pattern, in the search's terms
 module _ (p : Code) (y : List ℕ) (k : Risen) (ly : length y ≡ p.n) where
   at-word : (i : ℕ) → i < p.n → at (word_of p.n k) i ≡ magnitude_at k i
   at-word i h = word_at p.n k i h
 
   -- the pattern is above the word at cell i
-  pub above_fails : (i : ℕ) (b : Bool) → b ≡ ltb (at y i) (at (word_of (length y) k) i) → b ≡ true → false ≡ fits p y (word_of p.n k)
-  above_fails i b e t = sym (is_false (fits p y (word_of p.n k)) (λ f. step f (dec_lt i p.n)))
+  above_fails : (i : ℕ) → is_above_at y k i ≡ true → false ≡ fits p y (word_of p.n k)
+  above_fails i e = sym (is_false (fits p y (word_of p.n k)) (λ f. step f (dec_lt i p.n)))
     where
       above : at y i < at (word_of p.n k) i
-      above = ltb-true (at y i) (at (word_of p.n k) i) (ap (λ (n : ℕ). ltb (at y i) (at (word_of n k) i)) (sym ly) ∙ sym e ∙ t)
+      above = ltb-true (at y i) (at (word_of p.n k) i) (ap (λ (n : ℕ). ltb (at y i) (at (word_of n k) i)) (sym ly) ∙ e)
 
       step : T (fits p y (word_of p.n k)) → Dec (i < p.n) → ⊥
       step f (yes h) = let c = (fits_each p y (word_of p.n k) ly (length-word p.n k) (is_true (fits p y (word_of p.n k)) f) i h).0 in omega (arith, above)
       step f (no h) = omega (arith, above, word-past p.n k i (omega arith))
 
-  abbrev is_above_at : ℕ → Bool
-  is_above_at i = ltb (at y i) (at (word_of (length y) k) i)
+  -- whether it is above the word at a chosen cell
+  abbrev pub Above : Bool → Type 0
+  Above b =
+      MatchBool b ((j : ℕ) × (j < length k.rises) × HoldsAt (λ r. is_above_at y k r.cell ≡ true) k.rises j)
+      (AllWithin (λ r. is_above_at y k r.cell ≡ false) k.rises 0 (length k.rises))
+
+  pub chosen_above : (b : Bool) → Above b → b ≡ true → false ≡ fits p y (word_of p.n k)
+  chosen_above true (j, l, h) e = above_fails (rise_at k j).cell (h no_rise)
+  chosen_above false h e = cc
 
   -- a pattern that is not above the word at the cells chosen is so nowhere
-  pub chosen_under :
-      ((j : ℕ) → j < length k.rises → is_above_at (rise_at k j).cell ≡ false) → (i : ℕ) → i < p.n → magnitude_at k i ≤ at y i
+  pub chosen_under : (b : Bool) → Above b → b ≡ false → (i : ℕ) → i < p.n → magnitude_at k i ≤ at y i
   unfolding magnitude_at
-  chosen_under h i l = step (chosen_or_none (λ c. is_above_at c ≡ false) k.rises h i)
+  chosen_under true h e i l = cc
+  chosen_under false h e i l = step (chosen_or_none (λ c. is_above_at y k c ≡ false) k.rises (λ j g. h j no_rise (omega arith) g) i)
     where
-      step : (magnitude_at k i ≡ 0) ⊎ (is_above_at i ≡ false) → magnitude_at k i ≤ at y i
+      step : (magnitude_at k i ≡ 0) ⊎ (is_above_at y k i ≡ false) → magnitude_at k i ≤ at y i
       step (inl e) = omega (arith, e)
       step (inr u) = subst (λ (x : ℕ). x ≤ at y i) (at-word i l)
           (ltb-false (at y i) (at (word_of p.n k) i) (ap (λ (n : ℕ). ltb (at y i) (at (word_of n k) i)) (sym ly) ∙ u))
 
-  pub ceiling_fails :
-      (i v g u : ℕ) → i < p.n → v ≡ at y i → g ≡ magnitude_at k i → data_cells p ≤ i → u ≡ ceiling p → u ≤ v - g
-      → false ≡ fits p y (word_of p.n k)
-  ceiling_fails i v g u h ev eg w eu b = sym (is_false (fits p y (word_of p.n k)) (λ t.
-      let c = (fits_each p y (word_of p.n k) ly (length-word p.n k) (is_true (fits p y (word_of p.n k)) t) i h).1 w in
-      below (at-word i h) c eu))
-    where
-      below : at (word_of p.n k) i ≡ magnitude_at k i → at y i - at (word_of p.n k) i < ceiling p → u ≡ ceiling p → ⊥
-      below q c eu = let d : at y i - at (word_of p.n k) i < u = rw eu c in omega arith
-
   module _
       (m : 0 < p.M) (levels : EachCell (λ v. v < p.q) y) (same : same_syndrome p y (word_of p.n k) ≡ true)
       (under : (i : ℕ) → i < p.n → magnitude_at k i ≤ at y i) where
-    pub checks-below : (u : ℕ) → u ≡ ceiling p → ((i : ℕ) → i < p.n → data_cells p ≤ i → at y i - magnitude_at k i < u) → true ≡ fits p y (word_of p.n k)
+    checks-below : (u : ℕ) → u ≡ ceiling p → ((i : ℕ) → i < p.n → data_cells p ≤ i → at y i - magnitude_at k i < u) → true ≡ fits p y (word_of p.n k)
     checks-below u eu h =
         sym (fits_all p y (word_of p.n k) ly (length-word p.n k) m levels same
         (λ i b. (rw (at-word i b) (under i b), λ w. rw (at-word i b, ← eu) (h i b w))))
+
+    abbrev checks : List ℕ
+    checks = range_with_len (data_cells p) (p.n - data_cells p)
+
+    -- the check cells decide
+    pub checks_decide :
+        (u : ℕ) → u ≡ ceiling p → (b : Bool)
+        → MatchBool b (AllWithin (λ i. at y i - magnitude_at k i < u) checks 0 (length checks))
+        ((j : ℕ) × (j < length checks) × HoldsAt (λ i. u ≤ at y i - magnitude_at k i) checks j)
+        → b ≡ fits p y (word_of p.n k)
+    checks_decide u eu true all =
+        checks-below u eu (λ i h w.
+        let e : data_cells p + (i - data_cells p) ≡ i = omega arith in
+        let z = get_or-range_with_len (data_cells p) (p.n - data_cells p) (i - data_cells p) 0 (omega arith) ∙ e in
+        subst (λ (x : ℕ). at y x - magnitude_at k x < u) z (all (i - data_cells p) 0 (omega arith) (rw length-range_with_len (omega arith))))
+    checks_decide u eu false (j, l, high) =
+        let l' : j < p.n - data_cells p = rw length-range_with_len at l in
+        let i = data_cells p + j in
+        let h = subst (λ (x : ℕ). u ≤ at y x - magnitude_at k x) (get_or-range_with_len (data_cells p) (p.n - data_cells p) j 0 l') (high 0) in
+        sym (is_false (fits p y (word_of p.n k)) (λ t.
+        let c = (fits_each p y (word_of p.n k) ly (length-word p.n k) (is_true (fits p y (word_of p.n k)) t) i (omega arith)).1 (omega arith) in
+        let d : at y i - magnitude_at k i < u = rw (sym (at-word i (omega arith)), eu) c in
+        omega arith))
 
     -- the ceiling is q, and every level is below it
     pub no_ceiling : (u : ℕ) → u ≡ ceiling p → u ≡ p.q → true ≡ fits p y (word_of p.n k)

@@ -64,12 +64,7 @@ fn checks_fit(a: &Asked, k: Risen, high: usize) -> bool
     requires bound { high ≡ ceiling (the_code a.now.code) }
     ensures { result ≡ fits (the_code a.now.code) a.now.word.now (word_of a.now.code.n k) }
 {
-    for i in a.code.n - a.code.r..a.code.n {
-        if high <= usize::from(a.word[i]) - magnitude_at(k, i) {
-            return false;
-        }
-    }
-    true
+    (a.code.n - a.code.r..a.code.n).all(|i| usize::from(a.word[i]) - magnitude_at(k, i) < high)
 }
 
 // Whether a pattern with the word's syndrome is nowhere above the word and leaves its check cells below the ceiling. Where m divides q
@@ -79,16 +74,15 @@ fn leaves_codeword(a: &Asked, k: Risen) -> bool
     requires same { same_syndrome (the_code a.now.code) a.now.word.now (word_of a.now.code.n k) ≡ true }
     ensures { result ≡ fits (the_code a.now.code) a.now.word.now (word_of a.now.code.n k) }
 {
-    for rise in &k.rises {
-        if is_above(a.word, k, rise.cell) {
-            return false;
-        }
+    // The closure takes a copy of k: the check has no rule yet for a second loan of it.
+    if k.rises
+        .iter()
+        .any(move |rise| is_above(a.word, k, rise.cell))
+    {
+        return false;
     }
     let high = syndrome::ceiling(a.code.q, a.code.m);
-    if high == a.code.q {
-        return true;
-    }
-    checks_fit(a, k, high)
+    high == a.code.q || checks_fit(a, k, high)
 }
 
 // Whether the pattern of the choices made passes: nothing may remain of the syndrome and, where a codeword is asked for, it leaves one.

@@ -31,9 +31,9 @@ module _ (p : Code) (k : Risen) (left cell : ℕ) where
   cell_none one h = splits.no_cell more ended step p.l p.n (word_of cell k) left cell one h
 
   pub cell_more :
-      1 ≤ left → cell < p.n → magnitude_at k cell ≡ 0 → cells_from p k left cell ≡ magnitudes_from p k left cell 0 ++ cells_from p k left (cell + 1)
+      1 ≤ left → cell < p.n → Chosen k left cell → cells_from p k left cell ≡ magnitudes_from p k left cell 0 ++ cells_from p k left (cell + 1)
   unfolding cells_from magnitudes_from
-  cell_more one h z = rw (word_more cell k 0 z) (splits.at_cell_lem more ended step p.l p.n (word_of cell k) left cell one h)
+  cell_more one h s = rw (word_more cell k 0 (s.before cell (omega arith))) (splits.at_cell_lem more ended step p.l p.n (word_of cell k) left cell one h)
 
 -- the step of a magnitude
 module _ (p : Code) (k : Risen) (left cell mag : ℕ) where
@@ -42,12 +42,12 @@ module _ (p : Code) (k : Risen) (left cell mag : ℕ) where
   mag_none h = splits.no_magnitude more ended step p.l p.n (word_of cell k) left cell mag h
 
   pub mag_more :
-      mag < p.l → Chosen k left cell → 1 ≤ left
-      → magnitudes_from p k left cell mag ≡ cells_from p (added k cell (mag + 1)) (left - 1) (cell + 1) ++ magnitudes_from p k left cell (mag + 1)
+      (g : ℕ) → mag + 1 ≡ g → g ≤ p.l → Chosen k left cell → 1 ≤ left
+      → magnitudes_from p k left cell mag ≡ cells_from p (added k cell g) (left - 1) (cell + 1) ++ magnitudes_from p k left cell g
   unfolding cells_from magnitudes_from
-  mag_more h s one =
-      rw (word_more cell k' (mag + 1) here, word_same cell k' k below)
-      (splits.at_magnitude more ended step p.l p.n (word_of cell k) left cell mag h)
+  mag_more g e h s one =
+      rw (← e, word_more cell k' (mag + 1) here, word_same cell k' k below)
+      (splits.at_magnitude more ended step p.l p.n (word_of cell k) left cell mag (omega arith))
     where
       k' : Risen
       k' = added k cell (mag + 1)

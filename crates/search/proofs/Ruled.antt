@@ -14,10 +14,16 @@ use Rattle.candidate_patterns.proofs.Tests.{misses}
 use Rattle.search_filters.specs.Filters.{NoneAt, NoneFrom}
 use mathlib.Core.Option.{Option, none}
 use Rattle.candidate_patterns.specs.declared.asked.Asked.{Asked}
-use Rattle.search.specs.Search.{cells_from, magnitudes_from, seek}
+use Rattle.std.specs.Prelude as std
+use Rattle.std.specs.Prelude.{IfSome, IsSomeAnd}
+use Rattle.std.proofs.Common.{Bor, Continue}
+use Rattle.definitions.specs.Words.{at}
+use Rattle.search_filters.specs.Filters.{hash_of, LastCells}
+use Rattle.search_filters.proofs.Marks.{table_rules_out}
+use Rattle.search.specs.declared.Choices.{Choices}
+use Rattle.search.specs.Search.{Reached, Sought, cells_from, cells_left, magnitudes_from, seek, sought_as}
 use Rattle.candidate_patterns.specs.Candidates.{test_for}
-use Rattle.search.proofs.Order.{mag_more, all_chosen, one_miss, cell_none, mag_none, seek_none}
-use Rattle.search.proofs.Steps.{cell_skip}
+use Rattle.search.proofs.Order.{cell_more, mag_more, all_chosen, one_miss, cell_none, mag_none, seek_none, seek_skip}
 
 pub tried_as : (u v : ℕ) → u ≡ v → ◌≡◌ {A = Option (List ℕ) × ℕ} (none, u) (none, v)
 tried_as u v = ap (λ (w : ℕ). (none, w))
@@ -37,7 +43,7 @@ module _ (p : Code) (k : Risen) (f : List ℕ → Bool) where
     where
       split : magnitudes_from p k 1 c mag ≡ (word_of p.n (added k c (mag + 1)) ∷ []) ++ magnitudes_from p k 1 c (mag + 1)
       split =
-          mag_more p k 1 c mag (omega arith) ch (omega arith)
+          mag_more p k 1 c mag (mag + 1) refl (omega arith) ch (omega arith)
           ∙ ap (λ (l : List (List ℕ)). l ++ magnitudes_from p k 1 c (mag + 1))
           (all_chosen p (added k c (mag + 1)) 0 (c + 1) refl (omega arith) (chosen-added k 1 c (mag + 1) ch (omega arith)).before)
 
@@ -55,7 +61,7 @@ module _ (p : Code) (k : Risen) (f : List ℕ → Bool) where
       tried_as _ _
       (let q : t + suc d * p.l ≡ t + p.l + d * p.l = omega (arith, add-mul d 1 p.l, one-mul p.l) in q)
       ∙ cells_fail d (c + 1) (t + p.l) (omega arith) (chosen-next k 1 c ch) (λ c' g a. fails c' g (omega arith))
-      ∙ sym (cell_skip p k 1 c (omega arith) h ch f t (t + p.l) none_here)
+      ∙ sym (seek_skip f _ _ _ t (cell_more p k 1 c (omega arith) h ch) (t + p.l) none_here)
 
 pub range : (a : Asked) → SyndromeInRange (viewed.code a.code) a.s
 range a = record { below = a.below; past = a.past }
@@ -83,3 +89,17 @@ module _
   cells_ruled nothing t =
       rw one (cells_fail code k (test_for a) (a.code.n - cell) cell t refl last
       (λ c g from h. fails c g (chosen_later k 1 cell c from last) h (nothing c from h)))
+
+-- no choice that is left can end a pattern, by the table of last cells
+pub passed_over :
+    (a : Asked) (k : Choices) (rest : List ℕ) (last : std.Option (Bor (List ℕ))) → Reached a k rest
+    → IfSome last (λ x. LastCells (viewed.code a.code) x.now) → (k.left ≡ 1) × IsSomeAnd last (λ x. at x.now (hash_of (at rest)) ≤ k.cell)
+    → (all u : ℕ) → all ≡ (a.code.n - k.cell) * a.code.l → u ≡ k.tried + all → (none, u) ≡ seek (test_for a) (cells_left a k) k.tried
+passed_over a k rest last r table (one, past) all u ea eu =
+    tried_as _ _ (eu ∙ ap (λ (v : ℕ). k.tried + v) ea)
+    ∙ cells_ruled a k.risen rest k.left one r.remains k.cell r.chosen (table_rules_out (viewed.code a.code) last rest k.cell table past) k.tried
+
+-- a part of the search went on
+pub went_on :
+    (n : ℕ) (s : Sought) (u v : ℕ) (r : Option (List ℕ) × ℕ) → s ≡ Continue v → u ≡ v → sought_as n s ≡ r → (none, u) ≡ r
+went_on n s u v r es eu er = tried_as _ _ eu ∙ sym (ap (sought_as n) es) ∙ er

@@ -58,7 +58,8 @@ fn test_pattern(a: &Asked, rest: &[u8; 12], k: Choices) -> ControlFlow<(Risen, u
     ControlFlow::Continue(tried)
 }
 
-// The next cell is chosen. With a table of last cells, the cells that cannot end a pattern are passed over.
+// The next cell is chosen. With a table of last cells, the cells that cannot end a pattern are passed over. This function and the next stand in
+// acceptance too: there they store the key of each pattern, and filter nothing; here they break off at the first that passes.
 #[cycle(choosing)]
 fn choose_cell(
     a: &Asked,
@@ -102,14 +103,14 @@ fn choose_magnitude(
     let all = byte_helpers::times(a.code.n - (k.cell + 1), a.code.l);
     let mut next = *rest;
     let mut tried = k.tried;
-    for mag in 0..a.code.l {
+    for magnitude in 1..=a.code.l {
         let y = search_filters::lowered(a.code.m as u8, next, column);
         tried = if search_filters::cannot_end_from(last, k.left - 1, k.cell + 1, &y) {
             tried + all
         } else {
             let rise = Rise {
                 cell: k.cell,
-                magnitude: mag + 1,
+                magnitude,
             };
             let risen = Risen {
                 rises: [rise, k.risen.rises[0], k.risen.rises[1]],
@@ -143,14 +144,14 @@ fn heavier(a: &Asked, mut lighter: usize) -> Option<Pattern>
             tried: lighter,
         };
         match choose_cell(a, Some(&last), &a.s, start) {
-            ControlFlow::Break((risen, u)) => {
+            ControlFlow::Break((risen, tried)) => {
                 return Some(Pattern {
                     risen,
                     count: weight,
-                    tried: u,
+                    tried,
                 });
             }
-            ControlFlow::Continue(u) => lighter = u,
+            ControlFlow::Continue(tried) => lighter = tried,
         }
     }
     None

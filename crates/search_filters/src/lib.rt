@@ -16,37 +16,32 @@ fn less_modulo(m: u8, a: u8, e: u8) -> u8
     if a < e { a + (m - e) } else { a - e }
 }
 
-// What remains of a syndrome once the magnitude of a cell with this column is one more. A loop: with `array::from_fn`
-// the proof did not close, since it is told each call with some state of the closure only.
+// What remains of a syndrome once the magnitude of a cell with this column is one more.
 pub fn lowered(m: u8, rest: [u8; 12], column: [u8; 12]) -> [u8; 12]
     requires { (m ≤ 64) × ((i : ℕ) → at rest i < m) × ((i : ℕ) → at column i < m) }
     ensures { (i : ℕ) → at result i ≡ less_modulo m (at rest i) (at column i) }
 {
-    let mut s = rest;
-    for i in 0..12 {
-        s[i] = less_modulo(m, rest[i], column[i]);
-    }
-    s
+    byte_helpers::entrywise(&rest, &column, |a, e| less_modulo(m, a, e))
 }
 
-fn weighed(a: u8, b: u8, c: u8, d: u8, e: u8, f: u8) -> usize
-    ensures { (result ≡ weighed_of a b c d e f) × (result ≤ 16065) }
+// Six entries, from a place on, as a number.
+fn weighed(s: &[u8; 12], from: usize) -> usize
+    requires { from ≤ 6 }
+    ensures { (result ≡ weighed_of (at s.now) from) × (result ≤ 16065) }
 {
-    usize::from(a)
-        + 2 * usize::from(b)
-        + 4 * usize::from(c)
-        + 8 * usize::from(d)
-        + 16 * usize::from(e)
-        + 32 * usize::from(f)
+    usize::from(s[from])
+        + 2 * usize::from(s[from + 1])
+        + 4 * usize::from(s[from + 2])
+        + 8 * usize::from(s[from + 3])
+        + 16 * usize::from(s[from + 4])
+        + 32 * usize::from(s[from + 5])
 }
 
 // A number below 4096 for what remains: equal remainders have equal ones.
-fn hash(s: [u8; 12]) -> usize
-    ensures { result ≡ hash_of (at s) }
+fn hash(s: &[u8; 12]) -> usize
+    ensures { result ≡ hash_of (at s.now) }
 {
-    let low = weighed(s[0], s[1], s[2], s[3], s[4], s[5]);
-    let high = weighed(s[6], s[7], s[8], s[9], s[10], s[11]);
-    (low + 64 * high) % 4096
+    (weighed(s, 0) + 64 * weighed(s, 6)) % 4096
 }
 
 // The cell's number, from 1, at the hash of each multiple of its column.
@@ -59,7 +54,7 @@ fn mark(m: u8, l: usize, column: [u8; 12], cell: usize, last: &mut [u8; 4096])
     let mut s = [0u8; 12];
     for _ in 0..l {
         let y = byte_helpers::add_entries(m, &s, &column);
-        last[hash(y)] = number;
+        last[hash(&y)] = number;
         s = y;
     }
 }
@@ -80,7 +75,7 @@ pub fn cannot_end_from(last: Option<&[u8; 4096]>, left: usize, cell: usize, rest
     ensures { result ≡ true → (left ≡ 1) × IsSomeAnd last.entry (λ x. at x.now (hash_of (at rest.now)) ≤ cell) }
 {
     match last {
-        Some(cells) if left == 1 => usize::from(cells[hash(*rest)]) <= cell,
+        Some(cells) if left == 1 => usize::from(cells[hash(rest)]) <= cell,
         _ => false,
     }
 }
@@ -99,25 +94,12 @@ fn is_multiple(code: &Code, cell: usize, mag: usize, rest: &[u8; 12]) -> bool
     requires { mag ≤ code.now.l }
     ensures { result ≡ false → Misses (the_code code.now) cell mag rest.now }
 {
-    for i in 0..code.r {
-        if multiple(code.m, mag, code.column(i, cell)) != usize::from(rest[i]) {
-            return false;
-        }
-    }
-    true
+    (0..code.r).all(|i| multiple(code.m, mag, code.column(i, cell)) == usize::from(rest[i]))
 }
 
 // Whether one choice is left and this cell cannot make it: what remains is no multiple of its column.
 pub fn cannot_end_at(code: &Code, left: usize, cell: usize, rest: &[u8; 12]) -> bool
     ensures { result ≡ true → (left ≡ 1) × NoneAt (the_code code.now) cell rest.now }
 {
-    if left != 1 {
-        return false;
-    }
-    for mag in 0..code.l {
-        if is_multiple(code, cell, mag + 1, rest) {
-            return false;
-        }
-    }
-    true
+    left == 1 && !(1..=code.l).any(|mag| is_multiple(code, cell, mag, rest))
 }

@@ -1,18 +1,16 @@
-use Rattle.std.proofs.Common.{arith}
+use Rattle.std.proofs.Common.{◌-◌, ◌<◌, ◌≤◌, refl, arith, rules, tests}
+use Rattle.std.proofs.lemmas.Iterator.{cases_from_all, YieldsList-from_range}
+use Rattle.definitions.specs.Words.{at}
 use Rattle.definitions.proofs.Tests.{below_each}
-use Rattle.candidate_patterns.proofs.Fits.{ceiling_fails, checks-below}
+use Rattle.candidate_patterns.specs.Candidates.{magnitude_at}
+use Rattle.candidate_patterns.proofs.Fits.{checks_decide}
 use Rattle.opening.specs.Viewed.{code}
 use Rattle.candidate_patterns.proofs.checks_fit.Goals as goal
-
-pub returns-then-high-from : goal.returns-then-high-from
-returns-then-high-from c =
-    let a = c.args.a.now in
-    ceiling_fails (code a.code) a.word.now c.args.k (a.long c.requires.asked) c.loop-i.i _ _ _ (omega arith) c.from.ensures c.magnitude_at.ensures
-    (omega arith) c.requires.bound c.if-high-from.true
 
 pub returns : goal.returns
 returns c =
     let a = c.args.a.now in
-    checks-below (code a.code) a.word.now c.args.k (a.long c.requires.asked) (omega arith)
-    (below_each a.code.q a.word.now (rw (a.levels c.requires.asked) tt)) c.requires.same c.requires.under _ c.requires.bound
-    (λ i h w. c.loop-i.invariant i (omega arith) w)
+    checks_decide (code a.code) a.word.now c.args.k (a.long c.requires.asked) (omega arith)
+    (below_each a.code.q a.word.now (rw (a.levels c.requires.asked) tt)) c.requires.same c.requires.under _ c.requires.bound c.all.result
+    (cases_from_all _ _ _ (λ i. at a.word.now i - magnitude_at c.args.k i < c.args.high) (λ i. c.args.high ≤ at a.word.now i - magnitude_at c.args.k i)
+    c.all.ensures.ran (YieldsList-from_range _ _ _ refl refl) (λ i q k. search (rules, tests)) (λ i q k. search (rules, tests)))

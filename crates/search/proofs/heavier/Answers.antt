@@ -67,4 +67,4 @@ returns-in-Continue-clause-found c =
     let l = c.loop-weight in
     let e : l.weight ≡ p.t = omega arith in
     let done = weight_done p f l.weight l.lighter (omega arith) l.invariant.1 _ (sym (ap (sought_as p.n) c.in-Continue.is) ∙ c.choose_cell.ensures) in
-    answer_none p f c.in-Continue.u (subst (λ (w : ℕ). seek f (up_to p w) 0 ≡ (none, c.in-Continue.u)) e done)
+    answer_none p f c.in-Continue.tried (subst (λ (w : ℕ). seek f (up_to p w) 0 ≡ (none, c.in-Continue.tried)) e done)

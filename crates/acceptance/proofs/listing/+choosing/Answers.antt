@@ -34,8 +34,8 @@ pub choose_cell-returns : goal.choose_cell-returns
 choose_cell-returns t c =
     cells_done (code c.args.columns.now.code) c.args.left c.loop-c.c c.args.s.now (omega arith) _ _ _ c.loop-c.invariant c.loop-c-test.false
 
-pub choose_magnitude-loop-mag-init : goal.choose_magnitude-loop-mag-init
-choose_magnitude-loop-mag-init t c = record {
+pub choose_magnitude-loop-init : goal.choose_magnitude-loop-init
+choose_magnitude-loop-init t c = record {
   long = c.requires.within.2;
   small = c.requires.within.3;
   risen = raised-zero _ _ _;
@@ -44,29 +44,29 @@ choose_magnitude-loop-mag-init t c = record {
 
 pub choose_magnitude-choose_cell-requires : goal.choose_magnitude-choose_cell-requires
 choose_magnitude-choose_cell-requires t c =
-    let l = c.loop-mag in
+    let l = c.loop in
     let p = code c.args.columns.now.code in
-    let e = raised_more p c.args.cell l.mag c.args.s.now l.x _ l.invariant.risen c.raise-x.ensures.0 in (
+    let e = raised_more p c.args.cell l.counter c.args.s.now l.x _ l.invariant.risen c.raise-x.ensures.0 in (
       let h = c.decreases in omega arith,
       (
         (omega arith, c.raise-x.ensures.2, c.raise-x.ensures.1),
-        mag_room p c.args.left c.args.cell l.mag c.args.s.now _ _ _ l.invariant.part c.loop-mag-test.true _ e _ c.requires.room,
+        mag_room p c.args.left c.args.cell l.counter c.args.s.now _ _ _ l.invariant.part c.loop-test.true _ e _ c.requires.room,
       ),
     )
 
-pub choose_magnitude-loop-mag-preserved : goal.choose_magnitude-loop-mag-preserved
-choose_magnitude-loop-mag-preserved t c =
-    let l = c.loop-mag in
+pub choose_magnitude-loop-preserved : goal.choose_magnitude-loop-preserved
+choose_magnitude-loop-preserved t c =
+    let l = c.loop in
     let p = code c.args.columns.now.code in
-    let e = raised_more p c.args.cell l.mag c.args.s.now l.x _ l.invariant.risen c.raise-x.ensures.0 in
+    let e = raised_more p c.args.cell l.counter c.args.s.now l.x _ l.invariant.risen c.raise-x.ensures.0 in
     record {
       long = c.raise-x.ensures.2;
       small = c.raise-x.ensures.1;
       risen = e;
-      part = mag_part p c.args.left c.args.cell l.mag c.args.s.now _ _ _ l.invariant.part c.loop-mag-test.true _ e _ c.choose_cell.ensures;
+      part = mag_part p c.args.left c.args.cell l.counter c.args.s.now _ _ _ l.invariant.part c.loop-test.true _ e _ c.choose_cell.ensures;
     }
 
 pub choose_magnitude-returns : goal.choose_magnitude-returns
 choose_magnitude-returns t c =
-    let l = c.loop-mag in
-    mags_done (code c.args.columns.now.code) c.args.left c.args.cell l.mag c.args.s.now _ _ _ l.invariant.part c.loop-mag-test.false
+    let l = c.loop in
+    mags_done (code c.args.columns.now.code) c.args.left c.args.cell l.counter c.args.s.now _ _ _ l.invariant.part c.loop-test.false

@@ -18,11 +18,11 @@ invariant-choose_cell-loop-c l =
     let p = code l.columns.code in
     Partly (syndromes_from p l.left l.cell l.s) (syndromes_from p l.left l.c l.s) l.initial.listed l.listed
 
-abbrev pub invariant-choose_magnitude-loop-mag : goal.invariant-choose_magnitude-loop-mag
-invariant-choose_magnitude-loop-mag l =
+abbrev pub invariant-choose_magnitude-loop : goal.invariant-choose_magnitude-loop
+invariant-choose_magnitude-loop l =
     let p = code l.columns.code in record {
       long : length l.x ≡ 16;
       small : EachCell (λ v. v < l.columns.code.m) l.x;
-      risen : l.x ≡ raised_by p l.cell l.mag l.s;
-      part : Partly (raised_from p l.left l.cell l.s 0) (raised_from p l.left l.cell l.s l.mag) l.initial.listed l.listed;
+      risen : l.x ≡ raised_by p l.cell l.counter l.s;
+      part : Partly (raised_from p l.left l.cell l.s 0) (raised_from p l.left l.cell l.s l.counter) l.initial.listed l.listed;
     }

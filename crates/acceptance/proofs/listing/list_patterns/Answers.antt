@@ -1,4 +1,4 @@
-use Rattle.std.proofs.Common.{sym, arith}
+use Rattle.std.proofs.Common.{◌+◌, sym, arith}
 use Rattle.opening.specs.Viewed.{code}
 use Rattle.acceptance.proofs.Storing.{store_none, store_as, store_both}
 use Rattle.acceptance.proofs.Weights.{lighter_none, lighter_more, lighter_all, room}
@@ -14,5 +14,8 @@ pub loop-w-preserved : goal.loop-w-preserved
 loop-w-preserved c =
     store_both _ _ _ _ _ _ (lighter_more (code c.args.columns.now.code) c.loop-w.w) c.loop-w.invariant c.choose_cell.ensures
 
-pub returns : goal.returns
-returns c = store_as _ _ _ _ (sym (lighter_all (code c.args.columns.now.code) _ (omega arith))) c.loop-w.invariant
+pub returns-2 : goal.returns-2
+returns-2 c =
+    let p = code c.args.columns.now.code in
+    store_as _ _ _ _ (sym (lighter_all p (c.loop-w.w + 1) (omega arith)))
+    (store_both _ _ _ _ _ _ (lighter_more p c.loop-w.w) c.loop-w.invariant c.choose_cell.ensures)
