@@ -6,7 +6,7 @@ use Rattle.stack_operations.proofs.level.Given as goal
 
 abbrev pub invariant-loop-plane : goal.invariant-loop-plane
 invariant-loop-plane l = record {
-  room : l.at + message_length (as_codes (drop l.plane-index (take l.stack.m l.stack.planes))) ≡ length l.message;
+  room : length l.rest ≡ message_length (as_codes (drop l.plane-index (take l.stack.m l.stack.planes)));
   done : level_sum l.i (take l.stack.m l.stack.planes) l.message
-      ≡ l.sum + level_sum l.i (drop l.plane-index (take l.stack.m l.stack.planes)) (drop l.at l.message);
+      ≡ l.sum + level_sum l.i (drop l.plane-index (take l.stack.m l.stack.planes)) l.rest;
 }

@@ -17,8 +17,8 @@ loop-plane-preserved c =
       long = grind (arith, common_steps);
       room = room_next s.n w ps c.loop-plane.at c.loop-plane.out j p (omega arith) c.plane-item.is e _ i.room;
       done =
-          done_next s.n w ps c.loop-plane.at c.loop-plane.out j p (omega arith) c.plane-item.is e c.copy_from_slice.new.self c.digits-d.result _ i.done
-          (omega (arith, i.room, i.long)) c.requires.long c.copy_from_slice.ensures.after c.digits-d.ensures;
+          done_next s.n w ps c.loop-plane.at c.loop-plane.out j p (omega arith) c.plane-item.is e c.copy_from_slice.new.self c.plane_digits-d.result _ i.done
+          (omega (arith, i.room, i.long)) c.requires.long c.copy_from_slice.ensures.after c.plane_digits-d.ensures;
     }
 
 pub returns : goal.returns
