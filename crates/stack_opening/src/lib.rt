@@ -17,7 +17,8 @@ pub use plane::Plane;
 // The most levels of a stack.
 const MOST_LEVELS: usize = 64;
 
-// An opened stack: its cells, its planes, the first m of six, its levels and the symbols of a message.
+// An opened stack: its cells, its planes, the first m of six, its levels and the symbols of a message. The planes stand in an array with
+// their number beside it, since the library asks for no memory and a stack has six planes at most.
 #[derive(Clone, Copy)]
 pub struct Stack<'a> {
     pub n: usize,
@@ -60,6 +61,7 @@ impl<'a> Stack<'a> {
         let mut planes = [no_plane(n); 6];
         let mut q = 1;
         let mut symbols = 0;
+        // By index: of a loop over `&mut planes[..m]` the check makes no proof, since a plane holds a reference.
         for j in 0..m {
             let code = open_plane(n, rest)?;
             planes[j] = Plane { code, w: q };
@@ -67,8 +69,7 @@ impl<'a> Stack<'a> {
             symbols += n - code.r;
             rest = &rest[3 + code.matrix.len()..];
         }
-        let left_over = rest.len();
-        if left_over != 0 {
+        if !rest.is_empty() {
             return Err(Refusal::WrongLength);
         }
         if MOST_LEVELS < q {

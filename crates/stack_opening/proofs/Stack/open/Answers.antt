@@ -48,16 +48,16 @@ loop-j-preserved c =
           (left_next (drop 2 c.args.body.now) _ _ _ _ j i.left _ c.loop-j-test.true (sym c.in_ok-code.ensures.opened));
     }
 
-pub returns-then-left_over-ne0 : goal.returns-then-left_over-ne0
-returns-then-left_over-ne0 c =
-    let opened = tested (goal.at.returns-then-left_over-ne0 c).Else-not-stack_in_range in
-    stack_longer c.args.body.now _ _ opened _ _ c.loop-j.j c.loop-j.invariant.left (omega arith) c.if-left_over-ne0.true
+pub returns-then-not-is_empty : goal.returns-then-not-is_empty
+returns-then-not-is_empty c =
+    let opened = tested (goal.at.returns-then-not-is_empty c).Else-not-stack_in_range in
+    stack_longer c.args.body.now _ _ opened _ _ c.loop-j.j c.loop-j.invariant.left (omega arith) (sym c.is_empty.ensures ∙ c.if-not-is_empty.true)
 
 pub returns-then-q-gt-MOST_LEVELS : goal.returns-then-q-gt-MOST_LEVELS
 returns-then-q-gt-MOST_LEVELS c =
     let opened = tested (goal.at.returns-then-q-gt-MOST_LEVELS c).Else-not-stack_in_range in
     let i = c.loop-j.invariant in
-    stack_levels c.args.body.now _ _ opened _ _ c.loop-j.j i.left (omega arith) c.if-left_over-ne0.false (omega (arith, i.levels))
+    stack_levels c.args.body.now _ _ opened _ _ c.loop-j.j i.left (omega arith) (sym c.is_empty.ensures ∙ c.if-not-is_empty.false) (omega (arith, i.levels))
 
 pub returns : goal.returns
 returns c =
@@ -65,4 +65,4 @@ returns c =
     let e : c.from-m.result ≡ c.loop-j.j = omega arith in
     let i = c.loop-j.invariant in
     ap (λ k. given (record { n = c.from-n.result; planes = codes_to k c.loop-j.planes })) e
-    ∙ stack_given c.args.body.now _ _ opened _ _ c.loop-j.j i.left (omega arith) c.if-left_over-ne0.false (omega (arith, i.levels))
+    ∙ stack_given c.args.body.now _ _ opened _ _ c.loop-j.j i.left (omega arith) (sym c.is_empty.ensures ∙ c.if-not-is_empty.false) (omega (arith, i.levels))
