@@ -11,12 +11,12 @@ returns-in_default c =
     (c.loop-j.invariant.done ∙ nothing_found s.q (take s.m s.planes) c.loop-j.j c.plane-item.result (omega arith) c.plane-item.is
     (take s.n c.loop-j.levels) c.plane_pattern.result c.plane_pattern.ensures c.in_default.is)
 
-pub lower-requires-clause-value : goal.lower-requires-clause-value
-lower-requires-clause-value c =
+pub lower-requires-clause-modulus : goal.lower-requires-clause-modulus
+lower-requires-clause-modulus c =
     let s = c.args.stack.now in
     let p = c.plane-item.result in
     let v = value_most s c.loop-j.j p (omega arith) c.plane-item.is in
-    (p.low, omega (arith, v, s.size), omega (arith, v, p.low), s.size.3)
+    (omega (arith, v, p.low), s.size.3)
 
 pub lower-requires-clause-magnitudes : goal.lower-requires-clause-magnitudes
 lower-requires-clause-magnitudes c i h =

@@ -18,4 +18,4 @@ returns c =
     let p = code c.args.plane.now.code in
     c.first_pattern.ensures.found
     ∙ first_same p _ c.syndrome.result c.syndrome.ensures c.args.word.now (patterns_of p)
-    ∙ ap (λ d. first (same_syndrome p d) (patterns_of p)) c.digits-d.ensures
+    ∙ ap (λ d. first (same_syndrome p d) (patterns_of p)) c.plane_digits-d.ensures
