@@ -94,9 +94,9 @@ module _ (x : Stack) (s : List ℕ) where
   fits_message long fits = record { long = long ∙ x.message; below = (digits_test (stack x).planes s).0 (rw fits tt) }
 
   module _ (m : StackMessage (stack x) s) where
-    pub level_is : (i : ℕ) → i < x.n → level_sum i (take x.m x.planes) s ≡ at (encode_word (stack x) s) i
+    pub level_is : (i : ℕ) → i < x.n → level_sum i x.planes.items s ≡ at (encode_word (stack x) s) i
     unfolding encode_word
-    level_is i h = sum_is x.n i h 1 (take x.m x.planes) s (from_stack x) m.long
+    level_is i h = sum_is x.n i h 1 x.planes.items s (from_stack x) m.long
 
     pub long_word : length (encode_word (stack x) s) ≡ x.n
     unfolding encode_word

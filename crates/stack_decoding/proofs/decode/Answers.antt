@@ -8,7 +8,7 @@ pub returns-in_default : goal.returns-in_default
 returns-in_default c =
     let s = c.args.stack.now in
     refused_in s c.args.word.now c.args.out.now c.loop-j.j
-    (c.loop-j.invariant.done ∙ nothing_found s.q (take s.m s.planes) c.loop-j.j c.plane-item.result (omega arith) c.plane-item.is
+    (c.loop-j.invariant.done ∙ nothing_found s.q s.planes.items c.loop-j.j c.plane-item.result (omega arith) c.plane-item.is
     (take s.n c.loop-j.levels) c.plane_pattern.result c.plane_pattern.ensures c.in_default.is)
 
 pub lower-requires-clause-modulus : goal.lower-requires-clause-modulus
@@ -21,10 +21,10 @@ lower-requires-clause-modulus c =
 pub lower-requires-clause-magnitudes : goal.lower-requires-clause-magnitudes
 lower-requires-clause-magnitudes c i h =
     let s = c.args.stack.now in
-    let ps = take s.m s.planes in
+    let ps = s.planes.items in
     let p = c.plane-item.result in
     let e = plane_cells s c.loop-j.j p (omega arith) c.plane-item.is in
-    magnitudes_fit s.q (take s.m s.planes) c.loop-j.j p (omega arith) c.plane-item.is
+    magnitudes_fit s.q s.planes.items c.loop-j.j p (omega arith) c.plane-item.is
     (take s.n c.loop-j.levels) c.plane_pattern.result c.plane_pattern.ensures c.in-Some.found c.in-Some.is
     (value_most s c.loop-j.j p (omega arith) c.plane-item.is).0 i
     (omega (arith, h, e, length-take-le s.n c.loop-j.levels (omega (arith, c.loop-j.invariant.long))))
@@ -33,6 +33,6 @@ pub returns : goal.returns
 returns c =
     let s = c.args.stack.now in
     let e = c.loop-j.invariant.done
-    ∙ decoded_all s.q c.loop-j.j (take s.m s.planes) (take s.n c.loop-j.levels) (omega arith) in
+    ∙ decoded_all s.q c.loop-j.j s.planes.items (take s.n c.loop-j.levels) (omega arith) in
     rw c.copy_from_slice-2.ensures.after (given_by s c.args.word.now c.args.out.now (take s.n c.loop-j.levels) c.distance-count.result e
     (c.distance-count.ensures ∙ distance_is (take s.n c.loop-j.levels) c.args.word.now))
