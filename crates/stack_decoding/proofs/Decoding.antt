@@ -1,6 +1,6 @@
 -- Decoding plane after plane.
 use Rattle.std.proofs.Common.{◌≡◌, sym, ap, ◌∙◌, Some, None, List, [], ◌∷◌, ℕ, zero, suc, ◌+◌, ◌*◌, ◌-◌, ◌%◌, ◌<◌, ◌≤◌}
-use Rattle.std.proofs.Common.{length, take, drop, arith, get_or, cond, not, ◌==◌, map, sum, zip}
+use Rattle.std.proofs.Common.{length, drop, arith, get_or, cond, not, ◌==◌, map, sum, zip}
 use Rattle.std.proofs.lemmas.List.Sums.{sum_by-cons}
 use Rattle.std.specs.Prelude as std
 use Rattle.std.proofs.Math.Option.{Option, none, some}

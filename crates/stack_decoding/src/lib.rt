@@ -23,12 +23,12 @@ fn plane_pattern(plane: &Plane, word: &[u8]) -> Option<Pattern>
     requires { length word.now ≡ plane.now.code.n }
     ensures { found_word plane.now.code.n result ≡ first_with_syndrome (the_code plane.now.code) (digits plane.now.w plane.now.code.m word.now) }
 {
-    let d = stack_operations::plane_digits(plane, word);
+    let digits = stack_operations::plane_digits(plane, word);
     let asked = Asked {
         code: plane.code,
         word,
         codeword: false,
-        s: plane.code.syndrome(&d[..word.len()]),
+        s: plane.code.syndrome(&digits),
     };
     search::first_pattern(&asked)
 }

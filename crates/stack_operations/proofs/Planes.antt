@@ -123,6 +123,10 @@ module _ (n : ℕ) (c : List ℕ) (ps : List Plane) (at : ℕ) (out : List ℕ) 
 pub from_stack : (s : Stack) → From s.n 1 s.planes.items
 from_stack s = record { each = grind (arith, common_steps, s.each); values = s.values }
 
+-- an item of a slice of planes
+pub item_of : (ps slice : List Plane) → slice ≡ ps → (j : ℕ) (p : Plane) → j < length slice → p ≡ get_or slice j p → (j < length ps) × (p ≡ get_or ps j p)
+item_of ps slice e j p h is = rw (← e) (h, is)
+
 -- its planes have its cells
 pub plane_cells : (s : Stack) (j : ℕ) (p : Plane) → j < length s.planes.items → p ≡ get_or s.planes.items j p → p.code.n ≡ s.n
 plane_cells s j p h is = ap (λ (p : Plane). p.code.n) is ∙ (from_stack s).each j p h

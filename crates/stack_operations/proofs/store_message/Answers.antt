@@ -1,7 +1,7 @@
-use Rattle.std.proofs.Common.{◌≡◌, ◌∙◌, ◌<◌, ◌≤◌, ap, subst, get_or, take, length, arith}
+use Rattle.std.proofs.Common.{◌∙◌, ◌≤◌, ap, take, length, arith}
 use Rattle.std.proofs.lemmas.Grind.{common_steps}
 use Rattle.definitions.specs.StackMessages.{stack_message}
-use Rattle.stack_operations.proofs.Planes.{plane_cells, room_next, done_next, done_last, parts_are, from_stack}
+use Rattle.stack_operations.proofs.Planes.{item_of, plane_cells, room_next, done_next, done_last, parts_are, from_stack}
 use Rattle.stack_operations.proofs.store_message.Goals as goal
 
 pub loop-plane-preserved : goal.loop-plane-preserved
@@ -12,8 +12,7 @@ loop-plane-preserved c =
     let ps = s.planes.items in
     let j = c.loop-plane.plane-index in
     let p = c.plane-item.result in
-    let h : j < length ps = omega (arith, ap length c.deref-plane-items.ensures.0) in
-    let is : p ≡ get_or ps j p = subst (λ ps. p ≡ get_or ps j p) c.deref-plane-items.ensures.0 c.plane-item.is in
+    let (h, is) = item_of ps _ c.deref-plane-items.ensures.0 j p c.loop-plane-test.true c.plane-item.is in
     let e = plane_cells s j p h is in
     record {
       long = grind (arith, common_steps);
