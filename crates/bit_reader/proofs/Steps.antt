@@ -11,21 +11,22 @@ use lib.Seq.{ext_get_or}
 use Rattle.definitions.specs.Words.{at, sum_to, up_from}
 use Rattle.definitions.specs.Packing.{symbol_at}
 use Rattle.word_laws.proofs.Cells.{at-up_from, length-up_from}
-use Rattle.bit_reader.specs.Taking.{width_in, taken}
+use Rattle.bit_reader.specs.Taking.{width_in, Narrow, taken}
 use Rattle.bit_reader.specs.declared.Layout.{Layout}
 
 module _ (l : Layout) where
-  pub width_small : (i : ℕ) → width_in l i ≤ 8
-  width_small i = by (ltb i l.leading)
-    where
-      by : (b : Bool) → cond b l.wide l.narrow ≤ 8
-      by true = l.small.1
-      by false = l.small.2
+  module _ (small : Narrow l) where
+    pub width_small : (i : ℕ) → width_in l i ≤ 8
+    width_small i = by (ltb i l.leading)
+      where
+        by : (b : Bool) → cond b l.wide l.narrow ≤ 8
+        by true = small.wide
+        by false = small.narrow
 
-  -- bits are counted to 512
-  pub next_small : (i : ℕ) → sum_to i (width_in l) ≤ 8 * i
-  next_small zero = omega arith
-  next_small (suc i) = let a = next_small i in let b = width_small i in omega arith
+    -- bits are counted to 512
+    pub next_small : (i : ℕ) → sum_to i (width_in l) ≤ 8 * i
+    next_small zero = omega arith
+    next_small (suc i) = let a = next_small i in let b = width_small i in omega arith
 
   -- the symbol of each cell stands in it
   pub all_taken : (bytes x : List ℕ) → length x ≡ l.n

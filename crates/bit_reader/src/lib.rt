@@ -12,11 +12,10 @@ pub struct Layout {
     pub leading: usize,
     pub wide: usize,
     pub narrow: usize,
-    pub ghost small: { (n ≤ 64) × (wide ≤ 8) × (narrow ≤ 8) },
 }
 
 impl Layout {
-    ghost use Rattle.bit_reader.specs.Taking.{width_in, taken};
+    ghost use Rattle.bit_reader.specs.Taking.{width_in, Narrow, taken};
 
     // How many bits the symbol of cell i + 1 has.
     pub fn width_at(self, i: usize) -> usize
@@ -30,8 +29,10 @@ impl Layout {
     }
 
     // Take the symbols of all cells from bytes.
+    #[tactic(auto, using(crate::proofs::Steps::width_small, crate::proofs::Steps::next_small, crate::proofs::Steps::all_taken))]
     pub fn take_symbols(self, bytes: &[u8], out: &mut [u8])
-        requires { length out.old ≡ self.n }
+        requires narrow { Narrow self }
+        requires room { length out.old ≡ self.n }
         ensures { out.new ≡ taken self bytes.now }
     {
         let mut reader = BitReader::new(bytes);
@@ -51,6 +52,7 @@ pub struct BitReader<'a> {
 }
 
 impl<'a> BitReader<'a> {
+    // A reader of these bytes, at bit 0.
     pub fn new(src: &'a [u8]) -> BitReader<'a>
         ensures { (result.src ≡ src.entry) × (result.bit ≡ 0) }
     {

@@ -9,7 +9,7 @@ ghost use Rattle.definitions.specs.Sizes.{packed_bytes};
 ghost use Rattle.definitions.specs.PackingOperations.{open_packable, pack_code, unpack_code, Packed, Unpacked};
 ghost use Rattle.answers.specs.Answering.{answer_of, leaves};
 ghost use Rattle.opening.specs.Viewed.{code as the_code};
-ghost use Rattle.bit_reader.specs.Taking.{width_in};
+ghost use Rattle.bit_reader.specs.Taking.{width_in, Narrow};
 ghost use Rattle.packing.specs.Packing.{packing, unpacking, WherePacked, WhereUnpacked};
 
 mod pulled;
@@ -25,6 +25,7 @@ struct Packing<'a> {
     code: Code<'a>,
     layout: Layout,
     ghost powers: { packable (the_code code) ≡ true },
+    ghost narrow: { Narrow layout },
     ghost cells: { (layout.n ≡ code.n) × (layout.leading ≡ code.n - code.r) },
     ghost widths: { (i : ℕ) → width (the_code code) i ≡ width_in layout i },
 }

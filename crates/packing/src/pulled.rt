@@ -2,7 +2,7 @@
 ghost use Rattle.std.specs.Prelude.{◌≡◌, ℕ, ◌+◌, ◌^◌, ◌<◌, ◌≤◌, length};
 ghost use Rattle.definitions.specs.Words.{at};
 ghost use Rattle.definitions.specs.Packing.{bytes_of, bits_of};
-ghost use Rattle.bit_reader.specs.Taking.{width_in};
+ghost use Rattle.bit_reader.specs.Taking.{width_in, Narrow};
 
 use bit_reader::Layout;
 
@@ -11,6 +11,7 @@ use bit_reader::Layout;
 pub struct Symbols<'a> {
     pub message: &'a [u8],
     pub layout: Layout,
+    pub ghost narrow: { Narrow layout },
     pub ghost long: { length message.now ≡ layout.n },
     pub ghost below: { (i : ℕ) → i < layout.n → at message.now i < 2 ^ width_in layout i },
 }

@@ -1,6 +1,6 @@
 -- Decoding plane after plane.
 use Rattle.std.proofs.Common.{◌≡◌, sym, ap, ◌∙◌, Some, None, List, [], ◌∷◌, ℕ, zero, suc, ◌+◌, ◌*◌, ◌-◌, ◌%◌, ◌<◌, ◌≤◌}
-use Rattle.std.proofs.Common.{length, take, drop, arith, get_or, cond, not, ◌==◌, map, sum, zip}
+use Rattle.std.proofs.Common.{length, drop, arith, get_or, cond, not, ◌==◌, map, sum, zip}
 use Rattle.std.proofs.lemmas.List.Sums.{sum_by-cons}
 use Rattle.std.specs.Prelude as std
 use Rattle.std.proofs.Math.Option.{Option, none, some}
@@ -81,10 +81,10 @@ value_fits n w (x ∷ ps) h zero p l is =
 value_fits n w (x ∷ ps) h (suc j) p l is =
     omega (arith, value_fits n (w * x.code.m) ps (later n w x ps h) j p (omega arith) is, mul_assoc w x.code.m (product (as_codes ps)))
 
-pub value_most : (s : Stack) (j : ℕ) (p : Plane) → j < length (take s.m s.planes) → p ≡ get_or (take s.m s.planes) j p
+pub value_most : (s : Stack) (j : ℕ) (p : Plane) → j < length s.planes.items → p ≡ get_or s.planes.items j p
     → (p.w * p.code.m ≤ s.q) × (p.w ≤ s.q)
 value_most s j p h is =
-    let a = value_fits s.n 1 (take s.m s.planes) (from_stack s) j p h is in
+    let a = value_fits s.n 1 s.planes.items (from_stack s) j p h is in
     let b = le-mul_of_pos_right p.w (plane_pos s.n (code p.code) (is_plane s.n p (plane_cells s j p h is))) in
     (omega (arith, a, s.levels), omega (arith, a, b, s.levels))
 
@@ -116,16 +116,16 @@ module _ (q : ℕ) (ps : List Plane) (j : ℕ) (p : Plane) (h : j < length ps) (
 pub decoded_all : (q j : ℕ) (ps : List Plane) (x : List ℕ) → length ps ≤ j → decode_from q j (drop j ps) x ≡ given x
 decoded_all q j ps x h = rw (drop_of_length-le ps h) refl
 
-decodes : (s : Stack) (y : List ℕ) → decode_planes (levels (stack s)) 1 0 (stack s).planes y ≡ decode_from s.q 0 (take s.m s.planes) y
-decodes s y = rw (← s.levels) (sym (decode_is s.n s.q 1 (take s.m s.planes) (from_stack s) 0 y))
+decodes : (s : Stack) (y : List ℕ) → decode_planes (levels (stack s)) 1 0 (stack s).planes y ≡ decode_from s.q 0 s.planes.items y
+decodes s y = rw (← s.levels) (sym (decode_is s.n s.q 1 s.planes.items (from_stack s) 0 y))
 
 module _ (s : Stack) (y out : List ℕ) where
-  pub refused_in : (j : ℕ) → decode_from s.q 0 (take s.m s.planes) y ≡ refused_at 11 j
+  pub refused_in : (j : ℕ) → decode_from s.q 0 s.planes.items y ≡ refused_at 11 j
       → leaves (refused_at 11 j) out ≡ result (decode_word (stack s) y) out
   unfolding decode_word
   refused_in j e = let f = decodes s y ∙ e in rw f refl
 
-  pub given_by : (x : List ℕ) (k : ℕ) → decode_from s.q 0 (take s.m s.planes) y ≡ given x → k ≡ distance x y
+  pub given_by : (x : List ℕ) (k : ℕ) → decode_from s.q 0 s.planes.items y ≡ given x → k ≡ distance x y
       → leaves (given k) x ≡ result (decode_word (stack s) y) out
   unfolding decode_word
   given_by x k e g = let f = decodes s y ∙ e in rw (f, g) refl

@@ -23,27 +23,27 @@ fn plane_pattern(plane: &Plane, word: &[u8]) -> Option<Pattern>
     requires { length word.now ≡ plane.now.code.n }
     ensures { found_word plane.now.code.n result ≡ first_with_syndrome (the_code plane.now.code) (digits plane.now.w plane.now.code.m word.now) }
 {
-    let d = stack_operations::digits(word, plane.w, plane.code.m);
+    let digits = stack_operations::plane_digits(plane, word);
     let asked = Asked {
         code: plane.code,
         word,
         codeword: false,
-        s: plane.code.syndrome(&d[..word.len()]),
+        s: plane.code.syndrome(&digits),
     };
     search::first_pattern(&asked)
 }
 
 // A level lowered by a magnitude of place value w, modulo q.
 fn lowered_level(level: u8, g: usize, w: usize, q: usize) -> u8
-    requires { (w ≤ 64) × (1 ≤ q) × (q ≤ 64) × (g * w ≤ q) × (1 ≤ w) }
+    requires { (1 ≤ q) × (q ≤ 64) × (g * w ≤ q) }
     ensures { result ≡ (level + (q - g * w)) % q }
 {
-    ((usize::from(level) + (q - byte_helpers::times(g, w))) % q) as u8
+    ((usize::from(level) + (q - g * w)) % q) as u8
 }
 
 // Lower the levels by a plane's pattern.
 fn lower(levels: &mut [u8], k: Risen, w: usize, q: usize)
-    requires value { (1 ≤ w) × (w ≤ 64) × (1 ≤ q) × (q ≤ 64) }
+    requires modulus { (1 ≤ q) × (q ≤ 64) }
     requires magnitudes { (i : ℕ) → i < length levels.old → magnitude_at k i * w ≤ q }
     ensures { levels.new ≡ lowered q w levels.old (word_of (length levels.old) k) }
 {
@@ -72,7 +72,7 @@ pub fn decode(stack: &Stack, word: &[u8], out: &mut [u8]) -> Result<usize, Refus
     let n = stack.n;
     let mut levels = [0u8; 64];
     levels[..n].copy_from_slice(word);
-    for (j, plane) in stack.planes[..stack.m].iter().enumerate() {
+    for (j, plane) in stack.planes.iter().enumerate() {
         let Some(found) = plane_pattern(plane, &levels[..n]) else {
             return Err(Refusal::NoPatternInPlane(j));
         };

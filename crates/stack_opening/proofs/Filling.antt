@@ -1,16 +1,15 @@
 -- One plane more.
-use Rattle.std.proofs.Common.{◌≡◌, List, [], ◌∷◌, ◌++◌, map, ℕ, ◌+◌, ◌*◌, ◌^◌, ◌-◌, ◌<◌, ◌≤◌, length, set, take, arith}
-use native.Mathlib.Nat.{pow-suc, mul-le-mul, pow-le-pow_right}
+use Rattle.std.proofs.Common.{◌≡◌, List, [], ◌∷◌, ◌++◌, map, ℕ, ◌+◌, ◌*◌, ◌^◌, ◌-◌, ◌≤◌, arith}
+use native.Mathlib.Nat.{one-mul, pow-suc, mul-le-mul, pow-le-pow_right}
 use native.Mathlib.Numerals.{add-one}
-use Rattle.std.proofs.lemmas.Grind.{common_steps}
-use Rattle.std.proofs.lemmas.List.{take_more_set}
+use mathlib.Core.List.{map-append}
 use Rattle.definitions.specs.Codes.{data_cells}
 use Rattle.definitions.specs.Codes as codes
 use Rattle.definitions.specs.Stacks.{product}
 use Rattle.definitions.specs.StackMessages.{message_length}
 use Rattle.opening.specs.Viewed.{code}
 use Rattle.stack_opening.specs.declared.plane.Plane.{Plane}
-use Rattle.stack_opening.specs.Planes.{codes_to, place_values}
+use Rattle.stack_opening.specs.Planes.{as_codes, place_values}
 
 product_snoc : (ps : List codes.Code) (p : codes.Code) → product (ps ++ p ∷ []) ≡ product ps * p.M
 product_snoc [] p = grind arith
@@ -24,19 +23,19 @@ values_snoc : (w : ℕ) (ps : List codes.Code) (p : codes.Code) → place_values
 values_snoc w [] p = grind arith
 values_snoc w (x ∷ ps) p = grind (arith, values_snoc (w * x.M) ps p)
 
-module _ (planes : List Plane) (j : ℕ) (p : Plane) (fits : j < length planes) where
-  pub codes_more : codes_to (j + 1) (set planes j p) ≡ codes_to j planes ++ code p.code ∷ []
-  codes_more = grind (arith, common_steps)
+module _ (planes more : List Plane) (p : Plane) (pushed : more ≡ planes ++ p ∷ []) where
+  pub codes_more : as_codes more ≡ as_codes planes ++ code p.code ∷ []
+  codes_more = rw pushed (map-append (λ (x : Plane). code x.code) planes (p ∷ []))
 
-  pub levels_more : (q : ℕ) → q ≡ product (codes_to j planes) → q * p.code.m ≡ product (codes_to (j + 1) (set planes j p))
-  levels_more q e = rw (codes_more, product_snoc (codes_to j planes) (code p.code), ← e)
+  pub levels_more : (q : ℕ) → q ≡ product (as_codes planes) → q * p.code.m ≡ product (as_codes more)
+  levels_more q e = rw (codes_more, product_snoc (as_codes planes) (code p.code), ← e)
 
-  pub message_more : (s n : ℕ) → p.code.n ≡ n → s ≡ message_length (codes_to j planes) → s + (n - p.code.r) ≡ message_length (codes_to (j + 1) (set planes j p))
-  message_more s n l e = rw (codes_more, length_snoc (codes_to j planes) (code p.code), ← e, ← l)
+  pub message_more : (s n : ℕ) → p.code.n ≡ n → s ≡ message_length (as_codes planes) → s + (n - p.code.r) ≡ message_length (as_codes more)
+  message_more s n l e = rw (codes_more, length_snoc (as_codes planes) (code p.code), ← e, ← l)
 
-  pub values_more : p.w ≡ product (codes_to j planes) → map (λ p. p.w) (take j planes) ≡ place_values 1 (codes_to j planes)
-      → map (λ p. p.w) (take (j + 1) (set planes j p)) ≡ place_values 1 (codes_to (j + 1) (set planes j p))
-  values_more e f = rw (codes_more, values_snoc 1 (codes_to j planes) (code p.code), ← f, ← e, take_more_set planes j p fits) (grind (arith, common_steps))
+  pub values_more : p.w ≡ product (as_codes planes) → map (λ p. p.w) planes ≡ place_values 1 (as_codes planes)
+      → map (λ p. p.w) more ≡ place_values 1 (as_codes more)
+  values_more e f = rw (codes_more, values_snoc 1 (as_codes planes) (code p.code), ← f, ← e, one-mul p.w, pushed) (map-append (λ (x : Plane). x.w) planes (p ∷ []))
 
 -- the product of j + 1 numbers of at most 64
 pub levels_grow : (j q c : ℕ) → q ≤ 64 ^ j → c ≤ 64 → q * c ≤ 64 ^ (j + 1)

@@ -1,6 +1,6 @@
 -- Opening plane after plane, over plain variables.
 use Rattle.std.proofs.Common.{◌≡◌, ◌∙◌, sym, ap, Bool, true, false, not, Result, Ok, Err, List, [], ◌∷◌, ◌++◌, ℕ, suc, ◌+◌, ◌*◌, ◌-◌, ◌≤◌, ◌<◌}
-use Rattle.std.proofs.Common.{eqb, ltb, length, drop, arith, append-nil, lt-ltb, le-ltb, eq-eqb, ne_eqb}
+use Rattle.std.proofs.Common.{eqb, ltb, length, drop, arith, append-nil, lt-ltb, le-ltb}
 use Rattle.std.specs.Result.{IsErr, IsErrAnd}
 use mathlib.Core.Path.{refl}
 use mathlib.Core.List.{append_assoc}
@@ -84,12 +84,12 @@ module _ (b : List ℕ) (n m : ℕ) (opened : open_stack b ≡ within_levels n (
   stack_refused x h e = opened ∙ rw (left_refused (drop 2 b) n m before rest j left x h (sym e)) (after_refused x _)
 
   module _ (all : m ≤ j) where
-    pub stack_longer : (length rest ≡ 0 → ⊥) → refused 3 ≡ open_stack b
-    stack_longer h = sym (opened ∙ rw (left_end (drop 2 b) n m before rest j left all, ne_eqb (length rest) 0 h) refl)
+    pub stack_longer : eqb (length rest) 0 ≡ false → refused 3 ≡ open_stack b
+    stack_longer h = sym (opened ∙ rw (left_end (drop 2 b) n m before rest j left all, h) refl)
 
-    module _ (none : length rest ≡ 0) where
+    module _ (none : eqb (length rest) 0 ≡ true) where
       pub stack_levels : 64 < product before → refused 7 ≡ open_stack b
-      stack_levels h = sym (opened ∙ rw (left_end (drop 2 b) n m before rest j left all, eq-eqb (length rest) 0 none, lt-ltb 64 (product before) h) refl)
+      stack_levels h = sym (opened ∙ rw (left_end (drop 2 b) n m before rest j left all, none, lt-ltb 64 (product before) h) refl)
 
       pub stack_given : product before ≤ 64 → given (record { n = n; planes = before }) ≡ open_stack b
-      stack_given h = sym (opened ∙ rw (left_end (drop 2 b) n m before rest j left all, eq-eqb (length rest) 0 none, le-ltb 64 (product before) h) refl)
+      stack_given h = sym (opened ∙ rw (left_end (drop 2 b) n m before rest j left all, none, le-ltb 64 (product before) h) refl)

@@ -5,10 +5,10 @@ use Rattle.definitions.specs.Stacks as stacks
 use Rattle.answers.specs.declared.Refusal.{Refusal}
 use Rattle.answers.specs.Answering.{answer_with}
 use Rattle.stack_opening.specs.declared.Stack.{Stack}
-use Rattle.stack_opening.specs.Planes.{codes_to}
+use Rattle.stack_opening.specs.Planes.{as_codes}
 
 abbrev pub stack : Stack → stacks.Stack
-stack s = record { n = s.n; planes = codes_to s.m s.planes }
+stack s = record { n = s.n; planes = as_codes s.planes.items }
 
 abbrev pub opened_as : Result Stack Refusal → Answer stacks.Stack
 opened_as = answer_with stack

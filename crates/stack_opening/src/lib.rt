@@ -1,14 +1,15 @@
 // Opening a stack's description: from its bytes to a stack as one value, with its planes, or to a refusal.
 #![tactic(auto)]
 
-ghost use Rattle.std.specs.Prelude.{◌≡◌, ℕ, ◌≤◌, map, take, All, IsTrue};
+ghost use Rattle.std.specs.Prelude.{◌≡◌, ℕ, ◌≤◌, map, All, IsTrue};
 ghost use Rattle.definitions.specs.Stacks.{product};
 ghost use Rattle.definitions.specs.StackMessages.{message_length};
 ghost use Rattle.definitions.specs.StackOperations.{stack_in_range, open_stack};
-ghost use Rattle.stack_opening.specs.Planes.{codes_to, place_values};
+ghost use Rattle.stack_opening.specs.Planes.{as_codes, place_values};
 
 use answers::Refusal;
-use plane::{no_plane, open_plane};
+use arrayvec::ArrayVec;
+use plane::open_plane;
 
 mod plane;
 
@@ -17,19 +18,18 @@ pub use plane::Plane;
 // The most levels of a stack.
 const MOST_LEVELS: usize = 64;
 
-// An opened stack: its cells, its planes, the first m of six, its levels and the symbols of a message.
-#[derive(Clone, Copy)]
+// An opened stack: its cells, its planes, its levels and the symbols of a message.
+#[derive(Drop)]
 pub struct Stack<'a> {
     pub n: usize,
-    pub m: usize,
     pub q: usize,
     pub symbols: usize,
-    pub planes: [Plane<'a>; 6],
-    pub ghost size: { (1 ≤ n) × (n ≤ 64) × (m ≤ 6) × (q ≤ 64) },
-    pub ghost each: { All (λ p. p.code.n ≡ n) planes },
-    pub ghost levels: { q ≡ product (codes_to m planes) },
-    pub ghost message: { symbols ≡ message_length (codes_to m planes) },
-    pub ghost values: { map (λ p. p.w) (take m planes) ≡ place_values 1 (codes_to m planes) },
+    pub planes: ArrayVec<Plane<'a>, 6>,
+    pub ghost size: { (1 ≤ n) × (n ≤ 64) × (q ≤ 64) },
+    pub ghost each: { All (λ p. p.code.n ≡ n) planes.items },
+    pub ghost levels: { q ≡ product (as_codes planes.items) },
+    pub ghost message: { symbols ≡ message_length (as_codes planes.items) },
+    pub ghost values: { map (λ p. p.w) planes.items ≡ place_values 1 (as_codes planes.items) },
 }
 
 // The ranges of a stack's cells and planes.
@@ -57,18 +57,17 @@ impl<'a> Stack<'a> {
             return Err(Refusal::OutOfRange);
         }
         let mut rest = &body[2..];
-        let mut planes = [no_plane(n); 6];
+        let mut planes = ArrayVec::new();
         let mut q = 1;
         let mut symbols = 0;
-        for j in 0..m {
+        for _ in 0..m {
             let code = open_plane(n, rest)?;
-            planes[j] = Plane { code, w: q };
+            planes.push(Plane { code, w: q });
             q *= code.m;
             symbols += n - code.r;
             rest = &rest[3 + code.matrix.len()..];
         }
-        let left_over = rest.len();
-        if left_over != 0 {
+        if !rest.is_empty() {
             return Err(Refusal::WrongLength);
         }
         if MOST_LEVELS < q {
@@ -76,7 +75,6 @@ impl<'a> Stack<'a> {
         }
         Ok(Stack {
             n,
-            m,
             q,
             symbols,
             planes,

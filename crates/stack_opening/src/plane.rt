@@ -15,22 +15,21 @@ pub struct Plane<'a> {
     pub ghost low: { 1 ≤ w },
 }
 
-// What stands in an array of planes where no plane is yet.
-#[tactic(auto, unfolding(definitions::specs::Patterns::pattern_count))]
-pub fn no_plane<'a>(n: usize) -> Plane<'a>
-    requires { (1 ≤ n) × (n ≤ 64) }
-    ensures { result.code.n ≡ n }
-{
-    let code = Code {
-        n,
-        r: 0,
-        q: 2,
-        m: 2,
-        l: 1,
-        t: 0,
-        matrix: &[],
-    };
-    Plane { code, w: 1 }
+// A plane of one cell: what an ArrayVec holds where no plane is yet.
+impl Default for Plane<'_> {
+    #[tactic(auto, unfolding(definitions::specs::Patterns::pattern_count))]
+    fn default() -> Self {
+        let code = Code {
+            n: 1,
+            r: 0,
+            q: 2,
+            m: 2,
+            l: 1,
+            t: 0,
+            matrix: &[],
+        };
+        Plane { code, w: 1 }
+    }
 }
 
 // The ranges of a plane's c, r and t in a stack of n cells.

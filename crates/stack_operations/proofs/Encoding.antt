@@ -1,9 +1,9 @@
 -- Encoding plane after plane: the digits of a plane's codeword, and the levels that they add up to.
 use Rattle.std.proofs.Common.{◌≡◌, sym, ap, ◌∙◌, true, List, [], ◌∷◌, ◌++◌, ℕ, ◌+◌, ◌*◌, ◌-◌, ◌%◌, ◌<◌, ◌≤◌}
-use Rattle.std.proofs.Common.{length, take, drop, replicate, arith, get_or, drop-drop}
+use Rattle.std.proofs.Common.{length, take, drop, replicate, arith, get_or}
 use mathlib.Core.Path.{ap₂}
 use native.Mathlib.Nat.{mul-zero, zero-add}
-use lib.ListN.{length-append, length-drop, length-replicate, get_or-append, drop_of_length-le}
+use lib.ListN.{length-append, length-drop, length-replicate, get_or-append}
 use lib.Seq.{length-take-le, get_or-take, get_or-append-add}
 use Rattle.definitions.specs.Words.{at}
 use Rattle.definitions.specs.Codes.{Code, data_cells}
@@ -11,6 +11,7 @@ use Rattle.definitions.specs.Messages.{check_level}
 use Rattle.definitions.specs.Stacks.{levels}
 use Rattle.definitions.specs.StackMessages.{message_length, digits_fit, StackMessage, encode_plane, encode_from, encode_word}
 use Rattle.syndrome.specs.Columns.{filling_of}
+use Rattle.std.proofs.lemmas.Grind.{common_steps}
 use Rattle.word_laws.proofs.Cells.{at-map2, length-map2, sum_same, each_at}
 use Rattle.word_laws.proofs.Filling.{zeros-at}
 use Rattle.code_theorems.proofs.Messages.{encode-long, encode_front, encode_check}
@@ -23,7 +24,7 @@ use Rattle.stack_opening.specs.Viewed.{stack}
 use Rattle.stack_opening.specs.declared.Stack.{Stack}
 use Rattle.stack_opening.specs.declared.plane.Plane.{Plane}
 use Rattle.stack_operations.specs.Parts.{level_sum}
-use Rattle.stack_operations.proofs.Planes.{From, here, value, later, are_planes, next_plane, from_stack, stack_planes}
+use Rattle.stack_operations.proofs.Planes.{From, here, value, later, are_planes, from_stack, plane_cells, stack_planes}
 
 -- a plane's codeword from the digits s
 module _ (p : Code) (s : List ℕ) (pos : 0 < p.M) (below : p.r ≤ p.n) (long : data_cells p ≤ length s) where
@@ -83,30 +84,19 @@ sum_is n i low w (p ∷ ps) s h long =
     rw (value n w p ps h, sum_is n i low (w * p.code.m) ps rest (later n w p ps h) l)
     (sym (at-map2 (λ d v. d * w + v) (encode_plane (code p.code) s) (encode_from n (w * p.code.m) (as_codes ps) rest) i (omega arith) (omega arith)))
 
--- plane j, whose symbols start at `at`
-module _ (ps : List Plane) (s : List ℕ) (start j : ℕ) (p : Plane) (h : j < length ps) (is : p ≡ get_or ps j p) (n : ℕ) (e : p.code.n ≡ n) where
-  pub sum_next : (i sum : ℕ) → level_sum i ps s ≡ sum + level_sum i (drop j ps) (drop start s)
-      → level_sum i ps s ≡ sum + at (encode_plane (code p.code) (drop start s)) i * p.w + level_sum i (drop (j + 1) ps) (drop (start + (n - p.code.r)) s)
-  sum_next i sum d =
-      let f : drop (p.code.n - p.code.r) (drop start s) ≡ drop (start + (n - p.code.r)) s
-      = drop-drop (p.code.n - p.code.r) start s ∙ ap (λ (z : ℕ). drop (start + (z - p.code.r)) s) e in
-      let g : level_sum i (drop j ps) (drop start s)
-      ≡ at (encode_plane (code p.code) (drop start s)) i * p.w + level_sum i (drop (j + 1) ps) (drop (start + (n - p.code.r)) s)
-      = ap (λ (l : List Plane). level_sum i l (drop start s)) (next_plane ps j p p h is)
-      ∙ ap (λ (z : List ℕ). at (encode_plane (code p.code) (drop start s)) i * p.w + level_sum i (drop (j + 1) ps) z) f in
-      omega (arith, d, g)
-
-pub sum_last : (ps : List Plane) (s t : List ℕ) (j i sum : ℕ) → length ps ≤ j → level_sum i ps s ≡ sum + level_sum i (drop j ps) t → sum ≡ level_sum i ps s
-sum_last ps s t j i sum h d = let e = drop_of_length-le ps h in omega (arith, rw e at d)
+-- the level is no less with the digit of plane j, whose symbols stand first in the rest
+pub sum_next : (i sum total k j : ℕ) (ps : List Plane) (p : Plane) (rest : List ℕ) → j < length ps → p ≡ get_or ps j p → k ≡ p.code.n - p.code.r
+    → total ≡ sum + level_sum i (drop j ps) rest → sum + at (encode_plane (code p.code) (take k rest)) i * p.w ≤ total
+sum_next i sum total k j ps p rest h is e d = grind (arith, common_steps)
 
 module _ (x : Stack) (s : List ℕ) where
   pub fits_message : length s ≡ x.symbols → digits_fit (stack x).planes s ≡ true → StackMessage (stack x) s
   fits_message long fits = record { long = long ∙ x.message; below = (digits_test (stack x).planes s).0 (rw fits tt) }
 
   module _ (m : StackMessage (stack x) s) where
-    pub level_is : (i : ℕ) → i < x.n → level_sum i (take x.m x.planes) s ≡ at (encode_word (stack x) s) i
+    pub level_is : (i : ℕ) → i < x.n → level_sum i x.planes.items s ≡ at (encode_word (stack x) s) i
     unfolding encode_word
-    level_is i h = sum_is x.n i h 1 (take x.m x.planes) s (from_stack x) m.long
+    level_is i h = sum_is x.n i h 1 x.planes.items s (from_stack x) m.long
 
     pub long_word : length (encode_word (stack x) s) ≡ x.n
     unfolding encode_word
@@ -118,3 +108,6 @@ module _ (x : Stack) (s : List ℕ) where
         let b : at (encode_word (stack x) s) i < levels (stack x)
         = each_at (λ v. v < levels (stack x)) (encode_word (stack x) s) c.bounded i (omega (arith, long_word)) in
         omega (arith, b, x.levels, x.size)
+
+-- what the level of one cell rests on
+pub ruleset level_steps = (common_steps, sum_next, level_is, level_small, plane_cells)

@@ -4,7 +4,7 @@ use Rattle.std.proofs.Common.{length, take, drop, arith, All, drop-cons, get_or}
 use mathlib.Core.Path.{refl}
 use mathlib.Core.List.{append_assoc, append-nil}
 use lib.ListN.{length-append, drop_of_length-le}
-use lib.Seq.{length-take-le, take_at, take-take, take_all}
+use lib.Seq.{length-take-le, take_at, take_all}
 use Rattle.stack_theorems.proofs.Digits.{digits-length}
 use native.Mathlib.Numerals.{add-one}
 use Rattle.std.proofs.lemmas.Grind.{common_steps}
@@ -99,12 +99,10 @@ module _ (n : ℕ) (c : List ℕ) (ps : List Plane) (at : ℕ) (out : List ℕ) 
       pub room_next : (size : ℕ) → Room size → at + (n - p.code.r) + message_length (as_codes (drop (j + 1) ps)) ≡ size
       room_next size r = omega (arith, rw (next_plane ps j p p h is) at r)
 
-      pub done_next : (x d : List ℕ) (i : ℕ) → Done → at ≤ length out → length c ≡ n → x ≡ take (n - p.code.r) d
-          → take (length c) d ≡ digits p.w p.code.m c
+      pub done_next : (x : List ℕ) (i : ℕ) → Done → at ≤ length out → length c ≡ n → x ≡ take (n - p.code.r) (digits p.w p.code.m c)
           → parts c ps ≡ take (at + (n - p.code.r)) (take at out ++ (x ++ drop i (drop at out))) ++ parts c (drop (j + 1) ps)
-      done_next x d i r fits long f g =
+      done_next x i r fits long x_is =
           let k = n - p.code.r in
-          let x_is : x ≡ take k (digits p.w p.code.m c) = f ∙ sym (take-take k (length c) d (omega arith)) ∙ ap (take k) g in
           let size : length x ≡ k = ap length x_is ∙ length-take-le k (digits p.w p.code.m c) (omega (arith, digits-length p.w p.code.m c)) in
           let stored : take (at + k) (take at out ++ (x ++ drop i (drop at out))) ≡ take at out ++ x
           = ap (λ (l : ℕ). take (at + l) (take at out ++ (x ++ drop i (drop at out)))) (sym size) ∙ stored_part out x at fits i in
@@ -122,25 +120,29 @@ module _ (n : ℕ) (c : List ℕ) (ps : List Plane) (at : ℕ) (out : List ℕ) 
       sym (d ∙ rw e (append-nil (take at out)) ∙ take_all at out all)
 
 -- an opened stack
-pub from_stack : (s : Stack) → From s.n 1 (take s.m s.planes)
+pub from_stack : (s : Stack) → From s.n 1 s.planes.items
 from_stack s = record { each = grind (arith, common_steps, s.each); values = s.values }
 
+-- an item of a slice of planes
+pub item_of : (ps slice : List Plane) → slice ≡ ps → (j : ℕ) (p : Plane) → j < length slice → p ≡ get_or slice j p → (j < length ps) × (p ≡ get_or ps j p)
+item_of ps slice e j p h is = rw (← e) (h, is)
+
 -- its planes have its cells
-pub plane_cells : (s : Stack) (j : ℕ) (p : Plane) → j < length (take s.m s.planes) → p ≡ get_or (take s.m s.planes) j p → p.code.n ≡ s.n
+pub plane_cells : (s : Stack) (j : ℕ) (p : Plane) → j < length s.planes.items → p ≡ get_or s.planes.items j p → p.code.n ≡ s.n
 plane_cells s j p h is = ap (λ (p : Plane). p.code.n) is ∙ (from_stack s).each j p h
 
 pub stack_planes : (s : Stack) → ArePlanes s.n (stack s).planes
-stack_planes s = are_planes s.n 1 (take s.m s.planes) (from_stack s)
+stack_planes s = are_planes s.n 1 s.planes.items (from_stack s)
 
 pub codeword_by_digits : (s : Stack) (c : List ℕ) → length c ≡ s.n → all_below s.q c ≡ true
-    → list_all (zero_digits c) (take s.m s.planes) ≡ is_stack_codeword (stack s) c
+    → list_all (zero_digits c) s.planes.items ≡ is_stack_codeword (stack s) c
 codeword_by_digits s c e h =
-    zeros_decide s.n c e 1 (take s.m s.planes) (from_stack s) ∙ sym (codeword_decides (stack s) c e (rw (← s.levels) h))
+    zeros_decide s.n c e 1 s.planes.items (from_stack s) ∙ sym (codeword_decides (stack s) c e (rw (← s.levels) h))
 
 accepted_planes : (w : ℕ) (ps : List Plane) → list_all (λ p. accepted (code p.code)) ps ≡ all_planes (λ w p. accepted p) w (as_codes ps)
 accepted_planes w [] = refl
 accepted_planes w (p ∷ ps) = grind (arith, accepted_planes (w * p.code.m) ps)
 
-pub accepted_is : (s : Stack) → list_all (λ p. accepted (code p.code)) (take s.m s.planes) ≡ accepted_stack (stack s)
+pub accepted_is : (s : Stack) → list_all (λ p. accepted (code p.code)) s.planes.items ≡ accepted_stack (stack s)
 unfolding accepted_stack
-accepted_is s = accepted_planes 1 (take s.m s.planes)
+accepted_is s = accepted_planes 1 s.planes.items

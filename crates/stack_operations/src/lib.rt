@@ -12,6 +12,7 @@ ghost use Rattle.opening.specs.Viewed.{code as the_code};
 ghost use Rattle.stack_opening.specs.Viewed.{stack as the_stack};
 ghost use Rattle.stack_operations.specs.Parts.{zero_digits};
 
+use arrayvec::ArrayVec;
 use opening::Code;
 use stack_opening::{Plane, Stack};
 
@@ -28,7 +29,7 @@ fn planes_accepted(planes: &[Plane<'_>]) -> bool
 pub fn is_accepted(stack: &Stack) -> bool
     ensures { result ≡ accepted_stack (the_stack stack.now) }
 {
-    planes_accepted(&stack.planes[..stack.m])
+    planes_accepted(&stack.planes)
 }
 
 // A level's digit of place value w below c.
@@ -39,16 +40,26 @@ fn digit(level: u8, w: usize, c: usize) -> u8
     (usize::from(level) / w % c) as u8
 }
 
-// The digits of a word's levels, in the first cells of an array: the library asks for no memory.
-pub fn digits(word: &[u8], w: usize, c: usize) -> [u8; 64]
+// The digits of a word's levels.
+pub fn digits(word: &[u8], w: usize, c: usize) -> ArrayVec<u8, 64>
     requires { (length word.now ≤ 64) × (1 ≤ w) × (1 ≤ c) }
-    ensures { take (length word.now) result ≡ digits w c word.now }
+    ensures digits { result.items ≡ digits w c word.now }
+    ensures long { length result.items ≡ length word.now }
 {
-    let mut d = [0u8; 64];
-    for i in 0..word.len() {
-        d[i] = digit(word[i], w, c);
+    let mut digits = ArrayVec::new();
+    for level in word {
+        digits.push(digit(*level, w, c));
     }
-    d
+    digits
+}
+
+// The digits that a word has in a plane.
+pub fn plane_digits(plane: &Plane, word: &[u8]) -> ArrayVec<u8, 64>
+    requires { length word.now ≤ 64 }
+    ensures digits { result.items ≡ digits plane.now.w plane.now.code.m word.now }
+    ensures long { length result.items ≡ length word.now }
+{
+    digits(word, plane.w, plane.code.m)
 }
 
 // Whether the digits of each plane have syndrome 0.
@@ -57,13 +68,10 @@ fn digits_are_codewords(planes: &[Plane<'_>], word: &[u8]) -> bool
     requires long { All (λ p. p.code.n ≡ length word.now) planes.now }
     ensures { result ≡ list_all (zero_digits word.now) planes.now }
 {
-    for plane in planes {
-        let d = digits(word, plane.w, plane.code.m);
-        if !plane.code.has_zero_syndrome(&d[..word.len()]) {
-            return false;
-        }
-    }
-    true
+    planes.iter().all(|plane| {
+        let digits = plane_digits(plane, word);
+        plane.code.has_zero_syndrome(&digits)
+    })
 }
 
 // Whether a word, its levels below q, is a codeword: the digits of each plane are a codeword of it.
@@ -73,7 +81,7 @@ pub fn is_codeword(stack: &Stack, word: &[u8]) -> bool
     requires levels { all_below stack.now.q word.now ≡ true }
     ensures { result ≡ is_stack_codeword (the_stack stack.now) word.now }
 {
-    digits_are_codewords(&stack.planes[..stack.m], word)
+    digits_are_codewords(&stack.planes, word)
 }
 
 // The message that a word carries, plane by plane.
@@ -82,11 +90,11 @@ pub fn store_message(stack: &Stack, word: &[u8], out: &mut [u8])
     requires room { length out.old ≡ stack.now.symbols }
     ensures { out.new ≡ stack_message (the_stack stack.now) word.now }
 {
+    // A place runs along: with `split_at_mut` in the loop nothing is known at its end of what stands in `out`, so the proof does not close.
     let mut at = 0;
-    for plane in &stack.planes[..stack.m] {
+    for plane in stack.planes.iter() {
         let k = stack.n - plane.code.r;
-        let d = digits(word, plane.w, plane.code.m);
-        out[at..at + k].copy_from_slice(&d[..k]);
+        out[at..at + k].copy_from_slice(&plane_digits(plane, word)[..k]);
         at += k;
     }
 }
@@ -96,20 +104,20 @@ pub fn digits_fit(stack: &Stack, message: &[u8]) -> bool
     requires { length message.now ≡ stack.now.symbols }
     ensures { result ≡ digits_fit (the_stack stack.now).planes message.now }
 {
-    let mut at = 0;
-    for plane in &stack.planes[..stack.m] {
-        let end = at + (stack.n - plane.code.r);
-        if !byte_helpers::all_below(plane.code.m, &message[at..end]) {
+    let mut left = message;
+    for plane in stack.planes.iter() {
+        let (symbols, others) = left.split_at(stack.n - plane.code.r);
+        if !byte_helpers::all_below(plane.code.m, symbols) {
             return false;
         }
-        at = end;
+        left = others;
     }
     true
 }
 
-// Digit i + 1 of a plane's codeword.
+// Digit i + 1 of the codeword that carries a plane's symbols.
 fn plane_digit(code: &Code, symbols: &[u8], i: usize) -> usize
-    requires { (code.now.n - code.now.r ≤ length symbols.now) × (i < code.now.n) }
+    requires { (length symbols.now ≡ code.now.n - code.now.r) × (i < code.now.n) }
     ensures { result ≡ at (encode_plane (the_code code.now) symbols.now) i }
 {
     let k = code.n - code.r;
@@ -120,16 +128,18 @@ fn plane_digit(code: &Code, symbols: &[u8], i: usize) -> usize
 }
 
 // Level i + 1 of the codeword that carries a message.
+#[tactic(auto, using(crate::proofs::Encoding::level_steps))]
 fn level(stack: &Stack, message: &[u8], i: usize) -> usize
     requires message { StackMessage (the_stack stack.now) message.now }
     requires cell { i < stack.now.n }
     ensures { (result ≡ at (encode_word (the_stack stack.now) message.now) i) × (result < 64) }
 {
-    let mut at = 0;
+    let mut rest = message;
     let mut sum = 0;
-    for plane in &stack.planes[..stack.m] {
-        sum += plane_digit(&plane.code, &message[at..], i) * plane.w;
-        at += stack.n - plane.code.r;
+    for plane in stack.planes.iter() {
+        let (symbols, others) = rest.split_at(stack.n - plane.code.r);
+        sum += plane_digit(&plane.code, symbols, i) * plane.w;
+        rest = others;
     }
     sum
 }

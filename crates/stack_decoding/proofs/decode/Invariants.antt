@@ -5,6 +5,6 @@ use Rattle.stack_decoding.proofs.decode.Given as goal
 abbrev pub invariant-loop-j : goal.invariant-loop-j
 invariant-loop-j l = record {
   long : length l.levels ≡ 64;
-  done : decode_from l.stack.q 0 (take l.stack.m l.stack.planes) l.word
-      ≡ decode_from l.stack.q l.j (drop l.j (take l.stack.m l.stack.planes)) (take l.stack.n l.levels);
+  done : decode_from l.stack.q 0 l.stack.planes.items l.word
+      ≡ decode_from l.stack.q l.j (drop l.j l.stack.planes.items) (take l.stack.n l.levels);
 }

@@ -1,9 +1,6 @@
-use Rattle.std.proofs.Common.{◌≡◌, ℕ, ◌/◌, ◌%◌, ◌<◌, length}
-use Rattle.definitions.specs.Words.{at}
+use Rattle.std.proofs.Common.{◌≡◌, take}
+use Rattle.definitions.specs.Stacks.{digits}
 use Rattle.stack_operations.proofs.digits.Given as goal
 
-abbrev pub invariant-loop-i : goal.invariant-loop-i
-invariant-loop-i l = record {
-  long : length l.d ≡ 64;
-  done : (j : ℕ) → j < l.i → at l.d j ≡ at l.word j / l.w % l.c;
-}
+abbrev pub invariant-loop-level : goal.invariant-loop-level
+invariant-loop-level l = l.digits.items ≡ digits l.w l.c (take l.level-index l.word)

@@ -1,11 +1,11 @@
-use Rattle.std.proofs.Common.{◌≡◌, ◌+◌, take, drop, length}
+use Rattle.std.proofs.Common.{◌≡◌, drop, length}
 use Rattle.definitions.specs.StackMessages.{message_length, digits_fit}
 use Rattle.stack_opening.specs.Planes.{as_codes}
 use Rattle.stack_operations.proofs.digits_fit.Given as goal
 
 abbrev pub invariant-loop-plane : goal.invariant-loop-plane
 invariant-loop-plane l = record {
-  room : l.at + message_length (as_codes (drop l.plane-index (take l.stack.m l.stack.planes))) ≡ length l.message;
-  done : digits_fit (as_codes (take l.stack.m l.stack.planes)) l.message
-      ≡ digits_fit (as_codes (drop l.plane-index (take l.stack.m l.stack.planes))) (drop l.at l.message);
+  room : length l.left ≡ message_length (as_codes (drop l.plane-index l.stack.planes.items));
+  done : digits_fit (as_codes l.stack.planes.items) l.message
+      ≡ digits_fit (as_codes (drop l.plane-index l.stack.planes.items)) l.left;
 }

@@ -1,4 +1,4 @@
-use Rattle.std.proofs.Common.{◌≡◌, ◌+◌, take, drop, length}
+use Rattle.std.proofs.Common.{◌≡◌, ◌+◌, drop, length}
 use Rattle.definitions.specs.StackMessages.{message_length}
 use Rattle.stack_opening.specs.Planes.{as_codes}
 use Rattle.stack_operations.specs.Parts.{level_sum}
@@ -6,7 +6,7 @@ use Rattle.stack_operations.proofs.level.Given as goal
 
 abbrev pub invariant-loop-plane : goal.invariant-loop-plane
 invariant-loop-plane l = record {
-  room : l.at + message_length (as_codes (drop l.plane-index (take l.stack.m l.stack.planes))) ≡ length l.message;
-  done : level_sum l.i (take l.stack.m l.stack.planes) l.message
-      ≡ l.sum + level_sum l.i (drop l.plane-index (take l.stack.m l.stack.planes)) (drop l.at l.message);
+  room : length l.rest ≡ message_length (as_codes (drop l.plane-index l.stack.planes.items));
+  done : level_sum l.i l.stack.planes.items l.message
+      ≡ l.sum + level_sum l.i (drop l.plane-index l.stack.planes.items) l.rest;
 }

@@ -7,6 +7,6 @@ use Rattle.stack_operations.proofs.store_message.Given as goal
 abbrev pub invariant-loop-plane : goal.invariant-loop-plane
 invariant-loop-plane l = record {
   long : length l.out ≡ length l.initial.out;
-  room : l.at + message_length (as_codes (drop l.plane-index (take l.stack.m l.stack.planes))) ≡ length l.initial.out;
-  done : parts l.word (take l.stack.m l.stack.planes) ≡ take l.at l.out ++ parts l.word (drop l.plane-index (take l.stack.m l.stack.planes));
+  room : l.at + message_length (as_codes (drop l.plane-index l.stack.planes.items)) ≡ length l.initial.out;
+  done : parts l.word l.stack.planes.items ≡ take l.at l.out ++ parts l.word (drop l.plane-index l.stack.planes.items);
 }

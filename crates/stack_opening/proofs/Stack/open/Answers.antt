@@ -1,10 +1,8 @@
-use Rattle.std.proofs.Common.{◌≡◌, ◌∙◌, ap, ◌+◌, ◌<◌, length, sym, drop, arith}
+use Rattle.std.proofs.Common.{◌≡◌, ◌∙◌, ◌+◌, length, sym, drop, arith}
 use Rattle.std.proofs.lemmas.Grind.{common_steps}
 use native.Mathlib.Nat.{mul-pos}
 use Rattle.word_laws.proofs.Filling.{take_rest}
-use Rattle.definitions.specs.Answers.{given}
 use Rattle.definitions.specs.StackOperations.{open_planes, open_stack}
-use Rattle.stack_opening.specs.Planes.{codes_to}
 use Rattle.stack_opening.proofs.Filling.{codes_more, levels_more, message_more, values_more, levels_grow, levels_fit}
 use Rattle.stack_opening.proofs.Walk.{passed_on, within_levels, opens, left_next, stack_refused, stack_longer, stack_levels, stack_given}
 use Rattle.stack_opening.proofs.Stack.open.Goals as goal
@@ -21,48 +19,45 @@ returns-in_err-code c =
     let opened = tested (goal.at.returns-in_err-code c).Else-not-stack_in_range in
     let x = c.in_err-code.field-0.0 in
     passed_on _ c.from_residual.result x c.from_residual.ensures
-    ∙ sym (stack_refused c.args.body.now _ _ opened _ _ c.loop-j.j c.loop-j.invariant.left x c.loop-j-test.true c.in_err-code.ensures.opened)
+    ∙ sym (stack_refused c.args.body.now _ _ opened _ _ c.loop.counter c.loop.invariant.left x c.loop-test.true c.in_err-code.ensures.opened)
 
 pub overflow_mul-q : goal.overflow_mul-q
 overflow_mul-q c =
-    omega (arith, levels_grow c.loop-j.j c.loop-j.q c.in_ok-code.code.m c.loop-j.invariant.small (omega arith), levels_fit (c.loop-j.j + 1) (omega arith))
+    omega (arith, levels_grow c.loop.counter c.loop.q c.in_ok-code.code.m c.loop.invariant.small (omega arith), levels_fit (c.loop.counter + 1) (omega arith))
 
-pub loop-j-preserved : goal.loop-j-preserved
-loop-j-preserved c =
-    let i = c.loop-j.invariant in
-    let j = c.loop-j.j in
-    let planes = c.loop-j.planes in
+pub loop-preserved : goal.loop-preserved
+loop-preserved c =
+    let i = c.loop.invariant in
+    let planes = c.loop.planes.items in
     let code = c.in_ok-code.code in
-    let fits : j < length planes = omega (arith, i.long) in
+    let pushed = c.push.ensures.items in
     record {
-      long = grind (arith, common_steps);
+      count = grind (arith, common_steps);
       each = grind (arith, common_steps);
-      levels = levels_more planes j _ fits c.loop-j.q i.levels;
+      levels = levels_more planes _ _ pushed c.loop.q i.levels;
       low = mul-pos i.low (omega arith);
-      small = levels_grow j c.loop-j.q code.m i.small (omega arith);
-      message = message_more planes j _ fits c.loop-j.symbols _ c.in_ok-code.ensures.plane.0 i.message;
+      small = levels_grow c.loop.counter c.loop.q code.m i.small (omega arith);
+      message = message_more planes _ _ pushed c.loop.symbols _ c.in_ok-code.ensures.plane.0 i.message;
       few = omega arith;
-      values = values_more planes j _ fits i.levels i.values;
+      values = values_more planes _ _ pushed i.levels i.values;
       left =
-          rw (codes_more planes j _ fits, take_rest (3 + length code.matrix.now) c.loop-j.rest.now)
-          (left_next (drop 2 c.args.body.now) _ _ _ _ j i.left _ c.loop-j-test.true (sym c.in_ok-code.ensures.opened));
+          rw (codes_more planes _ _ pushed, take_rest (3 + length code.matrix.now) c.loop.rest.now)
+          (left_next (drop 2 c.args.body.now) _ _ _ _ c.loop.counter i.left _ c.loop-test.true (sym c.in_ok-code.ensures.opened));
     }
 
-pub returns-then-left_over-ne0 : goal.returns-then-left_over-ne0
-returns-then-left_over-ne0 c =
-    let opened = tested (goal.at.returns-then-left_over-ne0 c).Else-not-stack_in_range in
-    stack_longer c.args.body.now _ _ opened _ _ c.loop-j.j c.loop-j.invariant.left (omega arith) c.if-left_over-ne0.true
+pub returns-then-not-is_empty : goal.returns-then-not-is_empty
+returns-then-not-is_empty c =
+    let opened = tested (goal.at.returns-then-not-is_empty c).Else-not-stack_in_range in
+    stack_longer c.args.body.now _ _ opened _ _ c.loop.counter c.loop.invariant.left (omega arith) (sym c.is_empty.ensures ∙ c.if-not-is_empty.true)
 
 pub returns-then-q-gt-MOST_LEVELS : goal.returns-then-q-gt-MOST_LEVELS
 returns-then-q-gt-MOST_LEVELS c =
     let opened = tested (goal.at.returns-then-q-gt-MOST_LEVELS c).Else-not-stack_in_range in
-    let i = c.loop-j.invariant in
-    stack_levels c.args.body.now _ _ opened _ _ c.loop-j.j i.left (omega arith) c.if-left_over-ne0.false (omega (arith, i.levels))
+    let i = c.loop.invariant in
+    stack_levels c.args.body.now _ _ opened _ _ c.loop.counter i.left (omega arith) (sym c.is_empty.ensures ∙ c.if-not-is_empty.false) (omega (arith, i.levels))
 
 pub returns : goal.returns
 returns c =
     let opened = tested (goal.at.returns c).Else-not-stack_in_range in
-    let e : c.from-m.result ≡ c.loop-j.j = omega arith in
-    let i = c.loop-j.invariant in
-    ap (λ k. given (record { n = c.from-n.result; planes = codes_to k c.loop-j.planes })) e
-    ∙ stack_given c.args.body.now _ _ opened _ _ c.loop-j.j i.left (omega arith) c.if-left_over-ne0.false (omega (arith, i.levels))
+    let i = c.loop.invariant in
+    stack_given c.args.body.now _ _ opened _ _ c.loop.counter i.left (omega arith) (sym c.is_empty.ensures ∙ c.if-not-is_empty.false) (omega (arith, i.levels))
