@@ -5,7 +5,7 @@ use mathlib.Core.List.{List, [], ◌∷◌, ◌++◌, map, map-map, Memᴰ}
 use Prim.Native.Nat.{ℕ}
 use native.Mathlib.Omega.{arith}
 use lib.Dec.{T}
-use lib.ListN.{length, length-map, take}
+use lib.ListN.{length, length-map}
 use Rattle.definitions.specs.Words.{up_from, same_word}
 use Rattle.definitions.specs.Codewords.{syndrome}
 use Rattle.definitions.specs.Patterns.{patterns, patterns_of, pattern_count}
@@ -15,8 +15,8 @@ use Rattle.definitions.specs.Codes.{Code}
 use Rattle.opening.specs.Viewed.{code}
 use Rattle.opening.specs.declared.Code.{Code as Opened}
 use Rattle.acceptance.specs.Listing.{reached, zero_syndrome, syndromes}
-use Rattle.acceptance.specs.declared.keys.Listed.{Listed}
-use Rattle.acceptance.specs.Keys.{key_of, listed, Stored, word_of}
+use Rattle.arrayvec.specs.ArrayVec.{ArrayVec}
+use Rattle.acceptance.specs.Keys.{key_of, Stored, word_of}
 use Rattle.code_theorems.proofs.Acceptance.{in_pattern, patterns-number}
 use Rattle.acceptance.proofs.Distinct.{Each, different_alike}
 use Rattle.acceptance.proofs.Syndromes.{end, small, same_end, same_syndrome_lem, same_keys}
@@ -59,10 +59,10 @@ module _ (o : Opened) where
       same_syndrome_lem o a b la lb (λ i h. same_keys (end o a) (end o b) (small o a) (small o b) k i (omega arith)))
       (λ e. ap (λ (s : List ℕ). word_of (key_of s)) (same_end o a b la lb e))
 
-  pub keys-accepted : (b b' : Listed) → Stored (syndromes p) b b' → b.count ≡ 0 → all_different (map word_of (listed b')) ≡ accepted p
+  pub keys-accepted : (b b' : ArrayVec ℕ) → Stored (syndromes p) b b' → b.items ≡ [] → all_different (map word_of b'.items) ≡ accepted p
   unfolding accepted patterns_of syndromes
   keys-accepted b b' x none =
-      ap (λ (l : List ℕ). all_different (map word_of l)) (x.keys ∙ ap (λ (k : ℕ). take k b.keys ++ map key_of (syndromes p)) none)
+      ap (λ (l : List ℕ). all_different (map word_of l)) (x ∙ ap (λ (k : List ℕ). k ++ map key_of (syndromes p)) none)
       ∙ ap all_different (map-map word_of key_of (syndromes p) ∙ map-map (λ (s : List ℕ). word_of (key_of s)) (end o) es)
       ∙ different_alike (λ e. word_of (key_of (end o e))) (syndrome p) (λ e. length e ≡ p.n) keys_alike es
       (each_member (λ e. length e ≡ p.n) es (λ e m. (in_pattern p e m).long))

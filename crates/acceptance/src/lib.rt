@@ -11,7 +11,7 @@ ghost use Rattle.definitions.specs.Acceptance.{accepted};
 ghost use Rattle.opening.specs.Viewed.{code as the_code};
 
 use columns::Columns;
-use keys::Listed;
+use keys::Keys;
 use opening::Code;
 
 // Whether no two different patterns have one syndrome. Not inlined: room for its arrays is then made at its entry, and not behind a caller's
@@ -20,10 +20,7 @@ use opening::Code;
 pub fn is_accepted(code: &Code) -> bool
     ensures { result ≡ accepted (the_code code.now) }
 {
-    let mut listed = Listed {
-        keys: [0u128; 4096],
-        count: 0,
-    };
+    let mut listed = Keys::new();
     listing::list_patterns(&Columns::of(code), &mut listed);
-    different::all_different(&listed.keys[..listed.count])
+    different::all_different(&listed)
 }

@@ -7,11 +7,11 @@ ghost use Rattle.acceptance.specs.Listing.{syndromes_from, raised_from, syndrome
 ghost use Rattle.acceptance.specs.Keys.{Stored};
 
 use crate::columns::Columns;
-use crate::keys::Listed;
+use crate::keys::{Keys, key_of};
 
 // Weight after weight, from 0 to t.
-pub fn list_patterns(columns: &Columns, listed: &mut Listed)
-    requires { listed.old.count + length (syndromes (the_code columns.now.code)) ≤ 4096 }
+pub fn list_patterns(columns: &Columns, listed: &mut Keys)
+    requires { length listed.old.items + length (syndromes (the_code columns.now.code)) ≤ 4096 }
     ensures { Stored (syndromes (the_code columns.now.code)) listed.old listed.new }
 {
     let unrisen = [0u8; 16];
@@ -22,13 +22,13 @@ pub fn list_patterns(columns: &Columns, listed: &mut Listed)
 
 // The patterns that raise `left` of the cells from `cell` on: the first of these is chosen. s is the syndrome of the cells chosen so far.
 #[cycle(choosing)]
-fn choose_cell(columns: &Columns, left: usize, cell: usize, s: &[u8; 16], listed: &mut Listed)
+fn choose_cell(columns: &Columns, left: usize, cell: usize, s: &[u8; 16], listed: &mut Keys)
     requires within { (cell ≤ columns.now.code.n) × (length s.now ≡ 16) × EachCell (λ v. v < columns.now.code.m) s.now }
-    requires room { listed.old.count + length (syndromes_from (the_code columns.now.code) left cell s.now) ≤ 4096 }
+    requires room { length listed.old.items + length (syndromes_from (the_code columns.now.code) left cell s.now) ≤ 4096 }
     ensures { Stored (syndromes_from (the_code columns.now.code) left cell s.now) listed.old listed.new }
 {
     if left == 0 {
-        listed.store(s);
+        listed.push(key_of(s));
         return;
     }
     for c in cell..columns.code.n {
@@ -38,9 +38,9 @@ fn choose_cell(columns: &Columns, left: usize, cell: usize, s: &[u8; 16], listed
 
 // The same with `cell` among those raised: its magnitude is chosen, then the next cell.
 #[cycle(choosing)]
-fn choose_magnitude(columns: &Columns, left: usize, cell: usize, s: &[u8; 16], listed: &mut Listed)
+fn choose_magnitude(columns: &Columns, left: usize, cell: usize, s: &[u8; 16], listed: &mut Keys)
     requires within { (1 ≤ left) × (cell < columns.now.code.n) × (length s.now ≡ 16) × EachCell (λ v. v < columns.now.code.m) s.now }
-    requires room { listed.old.count + length (raised_from (the_code columns.now.code) left cell s.now 0) ≤ 4096 }
+    requires room { length listed.old.items + length (raised_from (the_code columns.now.code) left cell s.now 0) ≤ 4096 }
     ensures { Stored (raised_from (the_code columns.now.code) left cell s.now 0) listed.old listed.new }
 {
     let mut x = *s;

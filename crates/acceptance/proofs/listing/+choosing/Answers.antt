@@ -1,4 +1,4 @@
-use Rattle.std.proofs.Common.{◌≤◌, length, ap, arith}
+use Rattle.std.proofs.Common.{◌≤◌, ◌∙◌, ◌++◌, ◌∷◌, [], length, ap, arith}
 use Rattle.opening.specs.Viewed.{code}
 use Rattle.acceptance.proofs.Raising.{raised-zero, raised_more}
 use Rattle.acceptance.proofs.Storing.{store_as, none_yet}
@@ -6,13 +6,14 @@ use Rattle.acceptance.proofs.Steps.{done}
 use Rattle.acceptance.proofs.Choices.{cell_room, cell_part, cells_done, mag_room, mag_part, mags_done}
 use Rattle.acceptance.proofs.listing.+choosing.Goals as goal
 
-pub choose_cell-store-requires : goal.choose_cell-store-requires
-choose_cell-store-requires t c =
+pub choose_cell-push-requires : goal.choose_cell-push-requires
+choose_cell-push-requires t c =
     omega (arith, ap length (done (code c.args.columns.now.code) c.args.left c.args.cell c.args.s.now c.if-left-eq0.true), c.requires.room)
 
 pub choose_cell-returns-then-left-eq0 : goal.choose_cell-returns-then-left-eq0
 choose_cell-returns-then-left-eq0 t c =
-    store_as _ _ _ _ (done (code c.args.columns.now.code) c.args.left c.args.cell c.args.s.now c.if-left-eq0.true) c.store.ensures
+    store_as _ _ _ _ (done (code c.args.columns.now.code) c.args.left c.args.cell c.args.s.now c.if-left-eq0.true)
+    (c.push.ensures.items ∙ ap (λ k. c.args.listed.now.items ++ k ∷ []) c.key_of.ensures)
 
 pub choose_cell-choose_magnitude-requires : goal.choose_cell-choose_magnitude-requires
 choose_cell-choose_magnitude-requires t c =
