@@ -21,20 +21,12 @@ fn read_image<R: Read>(reader: &mut R, input: &mut [u8]) -> io::Result<usize>
     Ok(n)
 }
 
-// What cartlist prints for an image. An output that is closed ends the program without a word.
-fn print_lines(rt: &impl Print, image: &[u8]) {
-    let mut lines = [0u8; 8192];
-    if let Ok(length) = listing::list(image, &mut lines) {
-        let _ = rt.write_all(&lines[..length]);
-    }
-}
-
-// The buffer has 65,536 bytes, one more than an image, so that longer input is refused. A read that fails ends the program without a
-// word.
+// The buffer has 65,536 bytes, one more than an image, so that longer input is refused. A read that fails, and an output that is
+// closed, end the program without a word.
 fn main(rt: HostRuntime) -> io::Result<()> {
     let mut input = [0u8; 65536];
     if let Ok(n) = read_image(&mut rt.reader(), &mut input) {
-        print_lines(&rt, &input[..n]);
+        let _ = listing::write_lines(&input[..n], &mut io::writer(&rt));
     }
     Ok(())
 }

@@ -1,7 +1,8 @@
 // What cartlist prints for an image, written into a buffer. The image is checked once, and then its rows are read, however many.
 #![tactic(auto)]
 
-ghost use Rattle.std.specs.Prelude.{◌≡◌, ◌≤◌, length, IfOk};
+ghost use Rattle.std.specs.Prelude.{◌≡◌, ◌≤◌, length, IfOk, OnOk};
+ghost use Rattle.std.specs.Io.KnownBytes.{Appends};
 ghost use Rattle.definitions.specs.Words.{at};
 ghost use Rattle.definitions.specs.Images.{entry_numbers};
 ghost use Rattle.definitions.specs.CartridgeLists.{line_of, entry_line, row_lines, lines_of, list_image};
@@ -13,6 +14,7 @@ use answers::Refusal;
 use image::Image;
 use row_lines::Lines;
 use row_reading::Row;
+use std::io::{self, Write};
 
 // The line of a row, read with an output row of as many cells as it needs.
 fn put_row(row: Row, lines: &mut Lines)
@@ -79,4 +81,13 @@ pub fn list(image: &[u8], out: &mut [u8]) -> Result<usize, Refusal>
         return Err(Refusal::WrongBuffer);
     }
     Ok(put_first(image, out))
+}
+
+// The same, written where a program wants it.
+pub fn write_lines<W: Write>(image: &[u8], writer: &mut W) -> io::Result<()>
+    ensures { OnOk result (Appends (W.contents writer.old) (W.contents writer.new) (lines_of image.now)) }
+{
+    let mut lines = [0u8; 8192];
+    let length = put_first(image, &mut lines);
+    writer.write_all(&lines[..length])
 }

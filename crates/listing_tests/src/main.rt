@@ -9,10 +9,7 @@ use std::io::{self, Read};
 fn list(rt: &impl Print, name: &[u8], image: &[u8]) {
     let _ = rt.write_all(name);
     let _ = rt.write_all(b":\n");
-    let mut lines = [0u8; 8192];
-    if let Ok(length) = listing::list(image, &mut lines) {
-        let _ = rt.write_all(&lines[..length]);
-    }
+    let _ = listing::write_lines(image, &mut io::writer(rt));
 }
 
 // One sample of the input: its name, its image, and what follows.

@@ -8,7 +8,6 @@ ghost use Rattle.row_reading.specs.Records.{record_as};
 ghost use Rattle.row_numbers.specs.RowNumbers.{RowNumbered};
 
 use answers::Refusal;
-use image::Image;
 use numbered_answers::Reading;
 use row_reading::{Record, Row};
 
@@ -54,12 +53,9 @@ impl From<Result<Record, Refusal>> for RowNumbers {
 pub fn row_cells(image: &[u8], entry: usize) -> Result<usize, Refusal>
     ensures { answer_of result ≡ row_cells image.now entry }
 {
-    let checked = Image::check(image);
-    let Ok(image) = checked else {
-        return Err(checked.unwrap_err());
-    };
-    let Some(row) = Row::of(image, entry) else {
-        return Err(Refusal::OutOfRange);
+    let opened = Row::open(image, entry);
+    let Ok(row) = opened else {
+        return Err(opened.unwrap_err());
     };
     Ok(row.cells())
 }

@@ -1,11 +1,11 @@
 -- Which entries are rows, and what reading one answers.
-use mathlib.Core.Path.{◌≡◌, sym, ap, ap₂, subst, ◌∙◌}
-use mathlib.Core.Bool.{true, false}
+use mathlib.Core.Path.{◌≡◌, refl, sym, ap, subst, ◌∙◌}
+use mathlib.Core.Bool.{Bool, true, false, not}
 use mathlib.Core.List.{List}
 use Prim.Native.Nat.{ℕ}
 use native.Mathlib.Omega.{arith}
 use borrow.Author.Tests.{eq-eqb, ne_eqb}
-use Rattle.definitions.specs.Answers.{given, refused, Result}
+use Rattle.definitions.specs.Answers.{Answer, given, refused, refused_at, Result, result, refuse◌when◌else◌, after}
 use Rattle.definitions.specs.CodeOperations.{between, decode_code}
 use Rattle.definitions.specs.StackOperations.{decode_stack}
 use Rattle.definitions.specs.Images as images
@@ -15,7 +15,22 @@ use Rattle.answers.specs.declared.Refusal.{Refusal}
 use Rattle.answers.proofs.Refusals.{after_refused, result_refused}
 use Rattle.directory.specs.Entries.{entry_as}
 use Rattle.directory.specs.declared.Entry.{Entry}
+use Rattle.row_reading.specs.Opening.{open_row}
 use Rattle.image.proofs.Checked.{Named, plan, stack, row_of}
+
+-- what follows the opening of a row follows the check of the image and of the number
+pub after_open :
+    {B : Type 0} (x : List ℕ) (k : ℕ) (f : List ℕ × ℕ → Answer B)
+    → after (open_row x k) f ≡ after (check_image x) λ u. refuse 2 when not (is_row x k) else f (x, k)
+after_open {B} x k f = step (check_image x) (is_row x k)
+  where
+    step :
+        (a : Answer (Unit {0})) (t : Bool)
+        → after (after a λ u. refuse 2 when not t else given (x, k)) f ≡ after a λ u. refuse 2 when not t else f (x, k)
+    step (given u) true = refl
+    step (given u) false = refl
+    step (refused m) t = refl
+    step (refused_at m j) t = refl
 
 module _ (x : List ℕ) (k : ℕ) where
   -- what the reference names decides how a row is decoded
@@ -28,13 +43,13 @@ module _ (x : List ℕ) (k : ℕ) where
     unfolding decode_row
     by_stack e = let n = ne_eqb (entry_at x (reference_of x k)).kind 1 (λ i. omega arith) in rw n
 
-    pub image_refused : (y : Refusal) → refused_as y ≡ check_image x → leaves (refused_as y) out ≡ read_row x k out
+    -- what follows the opening, in one place
+    read_opened : result (after (open_row x k) (λ row. given (recorded row.1 (decode_row row.0 row.1 out)))) out ≡ read_row x k out
     unfolding read_row
-    image_refused y e = rw (← e, after_refused y, result_refused y out)
+    read_opened = ap (λ (a : Answer (RowRecord × List ℕ)). result a out) (after_open x k _)
 
-    pub no_row : given tt ≡ check_image x → is_row x k ≡ false → leaves (refused 2) out ≡ read_row x k out
-    unfolding read_row
-    no_row checked e = rw (← checked, e)
+    pub not_opened : (y : Refusal) → refused_as y ≡ open_row x k → leaves (refused_as y) out ≡ read_row x k out
+    not_opened y e = let r = read_opened in rw (← r, ← e, after_refused y, result_refused y out)
 
     pub row_read :
         check_image x ≡ given tt → is_row x k ≡ true → (r : RowRecord) (after : List ℕ)
@@ -42,12 +57,13 @@ module _ (x : List ℕ) (k : ℕ) where
     unfolding read_row
     row_read checked e r after h = rw (checked, e) (ap (λ (u : RowRecord × List ℕ). leaves (given u.0) u.1) h)
 
-    -- the same, of a row n of an image with these bytes
+    -- the same, of the row that was opened
     pub read_of :
-        (bytes : List ℕ) (n : ℕ) → bytes ≡ x → n ≡ k → given tt ≡ check_image x → is_row bytes n ≡ true → (r : RowRecord) (after : List ℕ)
+        (bytes : List ℕ) (n : ℕ) → given (bytes, n) ≡ open_row x k → (r : RowRecord) (after : List ℕ)
         → (r, after) ≡ recorded n (decode_row bytes n out) → leaves (given r) after ≡ read_row x k out
-    read_of bytes n same number checked row r after h =
-        row_read (sym checked) (sym (ap₂ is_row same number) ∙ row) r after (h ∙ ap₂ (λ b m. recorded m (decode_row b m out)) same number)
+    read_of bytes n e r after h =
+        let o = read_opened in
+        rw (← o, ← e) (ap (λ (u : RowRecord × List ℕ). leaves (given u.0) u.1) h)
 
 -- a row of an image that passed its check, whose reference is r
 module _ (x : List ℕ) (k r : ℕ) (is : r ≡ reference_of x k) (e : Entry) (read : entry_as e ≡ entry_at x r) where

@@ -40,6 +40,7 @@ fn decode_by_plan(body: &[u8], word: &[u8], out: &mut [u8]) -> Outcome
 
 impl<'a> Row<'a> {
     ghost use Rattle.row_reading.specs.Records.{record_as};
+    ghost use Rattle.row_reading.specs.Opening.{open_row, opened_as};
 
     // Entry k of an image, if it is a row's.
     pub fn of(image: Image<'a>, k: usize) -> Option<Row<'a>>
@@ -56,6 +57,20 @@ impl<'a> Row<'a> {
             Some(Kind::Row) => Some(Row { image, number: k }),
             Some(Kind::Plan | Kind::Stack) | None => None,
         }
+    }
+
+    // Entry k of an image that is checked first: 15, 16 or 2, or the row.
+    pub fn open(bytes: &'a [u8], k: usize) -> Result<Row<'a>, Refusal>
+        ensures { opened_as result ≡ open_row bytes.now k }
+    {
+        let checked = Image::check(bytes);
+        let Ok(image) = checked else {
+            return Err(checked.unwrap_err());
+        };
+        let Some(row) = Row::of(image, k) else {
+            return Err(Refusal::OutOfRange);
+        };
+        Ok(row)
     }
 
     // The number of the entry that its reference names, a plan or a stack.
@@ -115,12 +130,9 @@ pub fn read_row(image: &[u8], entry: usize, out: &mut [u8]) -> Result<Record, Re
     ensures stack_decides { WhereStackRow image.now entry out.old
         (λ S. RecordDecides (of_stack S) (body_of image.now entry) entry (answer_with record_as result) out.new) }
 {
-    let checked = Image::check(image);
-    let Ok(image) = checked else {
-        return Err(checked.unwrap_err());
-    };
-    let Some(row) = Row::of(image, entry) else {
-        return Err(Refusal::OutOfRange);
+    let opened = Row::open(image, entry);
+    let Ok(row) = opened else {
+        return Err(opened.unwrap_err());
     };
     Ok(row.read(out))
 }
