@@ -21,8 +21,8 @@ pub fn add_modulo(m: u8, a: u8, e: u8) -> u8
     if sum < m { sum } else { sum - m }
 }
 
-// f of the two entries at each place. A loop: with `array::from_fn` the proof did not close, since it is told each call
-// with some state of the closure only.
+// f of the two entries at each place. A loop: under `array::from_fn` both clauses would stand a second time, at its closure, off which the
+// check reads nothing, since it is generic.
 pub fn entrywise<const N: usize, F: Fn(u8, u8) -> u8>(a: &[u8; N], b: &[u8; N], f: F) -> [u8; N]
     requires { (i : ℕ) → i < N → F.pre f (at a.now i) (at b.now i) }
     ensures long { length result ≡ N }

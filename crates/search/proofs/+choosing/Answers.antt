@@ -23,7 +23,8 @@ choose_cell-choose_magnitude-requires t c =
     let reached : Reached c.args.a.now (record { risen = k.risen; left = k.left; cell = l.cell; tried = l.tried }) c.args.rest.now =
     record { chosen = l.invariant.chosen; cells = omega arith; remains = c.requires.reached.remains } in
     let falls : 2 * k.left - 1 < t = let m = c.decreases in omega arith in
-    (falls, ((reached, some, h), (room-first _ _ _ l.tried 4096 (cell_more (code c.args.a.now.code) k.risen k.left l.cell some h l.invariant.chosen) l.invariant.room, c.requires.table)))
+    let split = cell_more (code c.args.a.now.code) k.risen k.left l.cell some h l.invariant.chosen in
+    (falls, ((reached, some, h), (room-first _ _ _ l.tried 4096 split l.invariant.room, c.requires.table)))
 
 pub choose_cell-returns-in_err-tried : goal.choose_cell-returns-in_err-tried
 choose_cell-returns-in_err-tried t c =
