@@ -32,6 +32,16 @@ impl<'a> Case<'a> {
     }
 }
 
+// What an operation is handed of a case: its word, the body and the input as bytes, and the input as one number. Each has a lifetime of
+// its own, since the check covers no reference at an intersection of lifetimes.
+#[derive(Clone, Copy)]
+pub struct Call<'n, 'b, 'i> {
+    pub name: &'n [u8],
+    pub body: &'b [u8],
+    pub input: &'i [u8],
+    pub number: u64,
+}
+
 // What stands before the first mark, and what stands behind it; all and nothing where there is none.
 fn split_once(s: &[u8], mark: u8) -> (&[u8], &[u8]) {
     let mut parts = s.splitn(2, |b| *b == mark);

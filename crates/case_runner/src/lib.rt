@@ -7,7 +7,7 @@
 // `count 2: 3 5 3 1 1`. A line that is empty or starts with # is printed as it is.
 #![tactic(auto)]
 
-use crate::fields::Case;
+use crate::fields::{Call, Case};
 use crate::printing::{Answer, Buffer, Shown};
 use std::alloc::AllocError;
 
@@ -21,19 +21,23 @@ mod printing;
 mod stack_cases;
 
 // The answer of the operation that has the case's name, by a match on it, which is plainer than a table of functions; an output is stored
-// in `out`. The input is handed over as bytes, and as one number.
+// in `out`.
 fn answer(rt: &impl Alloc, case: &Case, out: &mut [u8]) -> Result<Answer, AllocError> {
-    let name = case.name;
     let body = fields::bytes(rt, case.body, 1024)?;
     let input = fields::bytes(rt, case.input, 512)?;
-    let number = fields::number(case.input);
+    let call = Call {
+        name: case.name,
+        body: &body,
+        input: &input,
+        number: fields::number(case.input),
+    };
     Ok(
-        code_cases::run(name, &body, &input, out)
-            .or_else(|| stack_cases::run(name, &body, &input, out))
-            .or_else(|| label_cases::run(name, &body, &input, out))
-            .or_else(|| packing_cases::run(name, &body, &input, out))
-            .or_else(|| number_cases::run(name, &body, number, &input, out))
-            .or_else(|| image_cases::run(name, &body, &input, out))
+        code_cases::run(&call, out)
+            .or_else(|| stack_cases::run(&call, out))
+            .or_else(|| label_cases::run(&call, out))
+            .or_else(|| packing_cases::run(&call, out))
+            .or_else(|| number_cases::run(&call, out))
+            .or_else(|| image_cases::run(&call, out))
             .unwrap_or(Answer::Message("no operation of that name")),
     )
 }
@@ -52,6 +56,7 @@ fn run_case(rt: &(impl Print + Alloc), case: &Case) {
     };
 }
 
+// Runs the cases of a text, each on a line of its own, and prints the answer of each.
 pub fn run(rt: &(impl Print + Alloc), text: &[u8]) {
     for line in text.split_inclusive(|b| *b == b'\n') {
         let line = line.strip_suffix(b"\n").unwrap_or(line);

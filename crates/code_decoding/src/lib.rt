@@ -17,7 +17,7 @@ use candidate_patterns::asked::Asked;
 use opening::Code;
 use search::Pattern;
 
-// The word less the pattern.
+// The word less the pattern. The word is read by index: of a buffer written through `iter_mut().zip(..)` a proof knows nothing.
 fn store_decoded(word: &[u8], k: Risen, out: &mut [u8])
     requires { length out.old ≡ length word.now }
     ensures { out.new ≡ subtract word.now (word_of (length word.now) k) }

@@ -68,8 +68,8 @@ pub fn body(image: &[u8], k: usize) -> &[u8]
     requires { InImage image.now k }
     ensures { result.now ≡ body_of image.now k }
 {
-    let e = entry_at(image, k);
-    &image[e.offset..e.offset + e.length]
+    let entry = entry_at(image, k);
+    &image[entry.offset..entry.offset + entry.length]
 }
 
 // Whether all n entries have a kind and their bodies follow without gaps to the image's end.
@@ -80,14 +80,14 @@ fn bodies_follow(image: &[u8], n: usize) -> bool
 {
     let mut place = 1 + 6 * n;
     for k in 1..=n {
-        let e = entry_at(image, k);
-        if Kind::of(e.kind).is_none() {
+        let entry = entry_at(image, k);
+        if Kind::of(entry.kind).is_none() {
             return false;
         }
-        if e.offset != place {
+        if entry.offset != place {
             return false;
         }
-        place += e.length;
+        place += entry.length;
     }
     place == image.len()
 }

@@ -31,7 +31,7 @@ fn level_of(table: &[u8], state: State) -> Level
 fn place_of(table: &[u8], level: Level) -> Option<usize>
     ensures { result ≡ position (λ x. nat_eq x level.0) table.now }
 {
-    table.iter().position(|l| *l == level.0)
+    table.iter().position(|entry| *entry == level.0)
 }
 
 #[tactic(auto, using(crate::proofs::Searching::state_found))]
@@ -74,15 +74,15 @@ pub fn is_permutation(table: &[u8]) -> bool
     ensures proposition { T result ↔ Permutation table.now }
 {
     let mut marked = [false; 256];
-    for level in table {
-        let l = usize::from(*level);
-        if table.len() <= l {
+    for entry in table {
+        let level = usize::from(*entry);
+        if table.len() <= level {
             return false;
         }
-        if marked[l] {
+        if marked[level] {
             return false;
         }
-        marked[l] = true;
+        marked[level] = true;
     }
     true
 }
@@ -190,7 +190,7 @@ fn check(table: &[u8], input: &[u8], room: usize) -> Result<(), Refusal>
     Ok(())
 }
 
-// A table applied to cells of one scale.
+// A table applied to cells of one scale. The input is read by index: of a buffer written through `iter_mut().zip(..)` a proof knows nothing.
 #[tactic(auto, using(crate::proofs::Applying::same_length, crate::proofs::Applying::table_small, crate::proofs::Applying::input_below))]
 fn apply<S: Scale>(table: &[u8], input: &[u8], out: &mut [u8]) -> Result<(), Refusal>
     ensures { leaves (answer_of result) out.new ≡ applied (S.turned table.now) table.now input.now out.old }

@@ -19,23 +19,20 @@ module _ (a : Numbered) where
   p = code a.code
 
   -- the place value after cell i + 1
-  value-within : (i : ℕ) → i < p.n → place_value p (suc i) ≤ 2 ^ 63
+  pub next_value : (i : ℕ) → i < p.n → place_value p i * radix p i ≤ 2 ^ 63
   unfolding radix_product
-  value-within i h =
+  next_value i h =
       le_trans (place_rises (radix p) (place_value p) refl (value-next p) (radix_positive p (omega arith) (omega arith)) (suc i) p.n (omega arith))
       (subst (λ (y : ℕ). y ≤ 2 ^ 63) a.is a.within)
 
-  module _ (i : ℕ) {v : ℕ} (is : v ≡ place_value p i) where
-    pub next_value : {k : ℕ} → i < p.n → k ≡ radix p i → v * k ≤ 2 ^ 63
-    next_value h e = rw (is, e) (value-within i h)
-
-    -- the number of the first i + 1 symbols
-    pub next_sum :
-        (s : List ℕ) {x g : ℕ} → length s ≡ p.n → symbols_fit p s ≡ true → i < length s → x ≡ sum_to i (λ j. at s j * place_value p j) → g ≡ at s i
-        → x + g * v < 2 ^ 63
-    next_sum s long fit h e f =
-        let below = λ (j : ℕ) (g : j < suc i). below-radix p s (fits p s long fit) j (omega arith) in
-        rw (is, e, f) (lt_of_lt_of_le (made-below (radix p) (place_value p) refl (value-next p) (at s) (suc i) below) (value-within i (omega arith)))
+  -- the number of the first i + 1 symbols
+  pub next_sum :
+      (i : ℕ) {v : ℕ} → v ≡ place_value p i → (s : List ℕ) {x g : ℕ} → length s ≡ p.n → symbols_fit p s ≡ true → i < length s
+      → x ≡ sum_to i (λ j. at s j * place_value p j) → g ≡ at s i → x + g * v < 2 ^ 63
+  next_sum i is s long fit h e f =
+      let below = λ (j : ℕ) (g : j < suc i). below-radix p s (fits p s long fit) j (omega arith) in
+      rw (is, e, f)
+      (lt_of_lt_of_le (made-below (radix p) (place_value p) refl (value-next p) (at s) (suc i) below) (next_value i (omega arith)))
 
 -- what is left of x once the symbols of i + 1 cells are taken
 pub next_rest : (p : codes.Code) (x i rest : ℕ) → rest ≡ x / place_value p i → rest / radix p i ≡ x / place_value p (i + 1)

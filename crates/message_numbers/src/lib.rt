@@ -81,6 +81,7 @@ impl<'a> Numbered<'a> {
     }
 
     // Each symbol times its place value, added up.
+    #[tactic(auto, using(crate::proofs::Symbols::next_value))]
     fn number_of(&self, message: &[u8]) -> u64
         requires long { length message.now ≡ self.now.code.n }
         requires fits { symbols_fit (the_code self.now.code) message.now ≡ true }

@@ -42,7 +42,7 @@ impl<'a> Lines<'a> {
         self.byte(b'\n');
     }
 
-    // A number below 100 in decimal.
+    // A number below 100 in decimal. Not by `write!`: it promises its text where it answers Ok, no clause excludes an Err, and lines cannot fail.
     fn decimal(&mut self, n: usize)
         requires small { n < 100 }
         requires room { Room self.old 2 }

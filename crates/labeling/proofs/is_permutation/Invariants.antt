@@ -1,5 +1,5 @@
 use Rattle.labeling.proofs.Marking.{Marked}
 use Rattle.labeling.proofs.is_permutation.Given as goal
 
-abbrev pub invariant-loop-level : goal.invariant-loop-level
-invariant-loop-level l = Marked l.table l.marked l.level-index
+abbrev pub invariant-loop-entry : goal.invariant-loop-entry
+invariant-loop-entry l = Marked l.table l.marked l.entry-index

@@ -2,15 +2,8 @@ use Rattle.std.proofs.Common.{◌≡◌, ℕ, ◌*◌, ap, ◌∙◌, arith}
 use Rattle.definitions.specs.Words.{at, sum_to}
 use Rattle.definitions.specs.MessageNumbers.{place_value, message_number}
 use Rattle.opening.specs.Viewed.{code}
-use Rattle.message_numbers.proofs.Symbols.{next_value, next_sum}
+use Rattle.message_numbers.proofs.Symbols.{next_sum}
 use Rattle.message_numbers.proofs.Numbered.number_of.Goals as goal
-
-pub overflow_mul-x : goal.overflow_mul-x
-overflow_mul-x c =
-    let l = c.loop-i in
-    let sum = next_sum c.args.self.now l.i l.invariant.place_value c.args.message.now c.requires.long c.requires.fits (omega arith) l.invariant.sum
-    c.from.ensures in
-    omega (arith, sum)
 
 pub overflow_add-x : goal.overflow_add-x
 overflow_add-x c =
@@ -19,10 +12,8 @@ overflow_add-x c =
     c.from.ensures in
     omega (arith, sum)
 
-pub overflow_mul-place_value : goal.overflow_mul-place_value
-overflow_mul-place_value c =
-    let value = next_value c.args.self.now c.loop-i.i c.loop-i.invariant.place_value (omega arith) c.radix_at-place_value.ensures.0 in
-    omega (arith, value)
+pub overflow_mul-x : goal.overflow_mul-x
+overflow_mul-x c = omega (arith, overflow_add-x c)
 
 pub returns : goal.returns
 unfolding message_number
