@@ -7,7 +7,7 @@ ghost use Rattle.acceptance.specs.Listing.{raised};
 
 use opening::Code;
 
-// A code and the columns of its n cells.
+// A code and the columns of its n cells. An array, since the length of an ArrayVec would be one fact more.
 #[derive(Drop)]
 pub struct Columns<'a> {
     pub code: Code<'a>,

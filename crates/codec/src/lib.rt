@@ -1,5 +1,6 @@
 // The operations of codes and stacks on bytes, each written once: a trait of what differs, whose default bodies are the operations of an
-// opened description, and the exported operations, which open it. They write to the output buffer only after all refusals.
+// opened description, and the exported operations, which open it. Of these there are two, since each has a definition and demands of its own.
+// They write to the output buffer only after all refusals. An opening is taken apart by `let .. else`, not by `?`: a rule of this project.
 #![tactic(auto)]
 
 ghost use Rattle.std.specs.Prelude.{◌≡◌, ◌↔◌, Bool, true, List, ℕ, ◌<◌, length, IfOk};

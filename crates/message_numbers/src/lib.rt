@@ -1,5 +1,5 @@
 // A code's message as one whole number, in mixed radix: the first symbol is the least significant. Each operation takes a code's
-// description; the buffer is written only after all refusals.
+// description; the buffer is written only after all refusals. An opening is taken apart by `let .. else`, not by `?`: a rule of this project.
 #![tactic(auto)]
 
 ghost use Rattle.std.specs.Prelude.{◌≡◌, true, ◌^◌, ◌≤◌, ◌<◌, length, SomeIff, IfOk};

@@ -146,8 +146,8 @@ impl Parameters {
 impl<'a> Code<'a> {
     ghost use Rattle.opening.specs.Viewed.{code, code_with, opened_as};
 
-    #[tactic(auto, unfolding(definitions::specs::CodeOperations::open_code))]
     // Open a code's description: the six fields, then the matrix. The answer is the first refusal of 1, 2, 3, 4 and 5 whose case holds.
+    #[tactic(auto, unfolding(definitions::specs::CodeOperations::open_code))]
     pub fn open(body: &'a [u8]) -> Result<Code<'a>, Refusal>
         ensures { opened_as result ≡ open_code body.now }
     {
@@ -189,7 +189,7 @@ impl<'a> Code<'a> {
         ((sum + usize::from(word[w + i])) % self.m) as u8
     }
 
-    // The syndrome of a word; its entries from r on are 0.
+    // The syndrome of a word. Its entries from r on are 0, so that all syndromes have one length, which an ArrayVec would say in a fact.
     pub fn syndrome(&self, word: &[u8]) -> [u8; 12]
         requires { length word.now ≡ self.now.n }
         ensures { Syndrome (code self.now) word.now result }

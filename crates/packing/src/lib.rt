@@ -1,5 +1,6 @@
 // Packing: a code's message to bytes and from bytes, where leftover bits must be 0. Each operation takes a code's description, its input
 // and an output buffer, and writes to the buffer only after all refusals.
+// An opening is taken apart by `let .. else`, not by `?`: a rule of this project.
 #![tactic(auto)]
 
 ghost use Rattle.std.specs.Prelude.{◌≡◌, true, ℕ, ◌-◌, ◌≤◌, length};

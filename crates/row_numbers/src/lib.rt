@@ -1,4 +1,5 @@
 // A row entry for other languages: the answer of reading it as numbers, and the cells that its output row needs.
+// An opening is taken apart by `let .. else`, not by `?`: a rule of this project.
 #![tactic(auto)]
 
 ghost use Rattle.std.specs.Prelude.{◌≡◌};

@@ -1,4 +1,4 @@
-// Reading a row entry of a cartridge image.
+// Reading a row entry of a cartridge image. An opening is taken apart by `let .. else`, not by `?`: a rule of this project.
 #![tactic(auto)]
 
 ghost use Rattle.std.specs.Prelude.{◌≡◌, true, false, ◌≤◌, MatchOption};

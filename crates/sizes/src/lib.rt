@@ -1,5 +1,5 @@
 // Sizes that a caller needs before a call, since an operation refuses with 8 a buffer that is not of its exact length. Three fields of two types:
-// one function for all would be no shorter.
+// one function for all would be no shorter. An opening is taken apart by `let .. else`, not by `?`: a rule of this project.
 #![tactic(auto)]
 
 ghost use Rattle.std.specs.Prelude.{◌≡◌};
