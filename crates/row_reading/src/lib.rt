@@ -32,10 +32,7 @@ pub struct Row<'a> {
 fn decode_by_plan(body: &[u8], word: &[u8], out: &mut [u8]) -> Outcome
     ensures { leaves (outcome_as result) out.new ≡ decode_code body.now word.now out.old }
 {
-    match codec::decode(body, word, out) {
-        Ok(decoded) => Outcome::Count(decoded.count),
-        Err(why) => Outcome::Refused(why),
-    }
+    Outcome::from(codec::decode(body, word, out).map(|decoded| decoded.count))
 }
 
 impl<'a> Row<'a> {

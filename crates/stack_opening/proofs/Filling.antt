@@ -35,7 +35,9 @@ module _ (planes more : List Plane) (p : Plane) (pushed : more ≡ planes ++ p �
 
   pub values_more : p.w ≡ product (as_codes planes) → map (λ p. p.w) planes ≡ place_values 1 (as_codes planes)
       → map (λ p. p.w) more ≡ place_values 1 (as_codes more)
-  values_more e f = rw (codes_more, values_snoc 1 (as_codes planes) (code p.code), ← f, ← e, one-mul p.w, pushed) (map-append (λ (x : Plane). x.w) planes (p ∷ []))
+  values_more e f =
+      rw (codes_more, values_snoc 1 (as_codes planes) (code p.code), ← f, ← e, one-mul p.w, pushed)
+      (map-append (λ (x : Plane). x.w) planes (p ∷ []))
 
 -- the product of j + 1 numbers of at most 64
 pub levels_grow : (j q c : ℕ) → q ≤ 64 ^ j → c ≤ 64 → q * c ≤ 64 ^ (j + 1)

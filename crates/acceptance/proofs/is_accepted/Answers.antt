@@ -11,4 +11,8 @@ pub list_patterns-requires : goal.list_patterns-requires
 list_patterns-requires c = omega (arith, length-syndromes (code c.of.result.code), c.of.result.code.few, ap length c.new-listed.ensures)
 
 pub returns : goal.returns
-returns c = rw (← c.of.ensures) (c.all_different.ensures ∙ ap (λ l. all_different (map word_of l)) c.deref.ensures.0 ∙ keys-accepted c.of.result.code _ _ c.list_patterns.ensures c.new-listed.ensures)
+returns c =
+    rw (← c.of.ensures)
+    (c.all_different.ensures
+    ∙ ap (λ l. all_different (map word_of l)) c.deref.ensures.0
+    ∙ keys-accepted c.of.result.code _ _ c.list_patterns.ensures c.new-listed.ensures)
