@@ -42,18 +42,14 @@ impl<'a> Lines<'a> {
         self.byte(b'\n');
     }
 
-    // A number below 100 in decimal. Not by `write!`: it promises its text where it answers Ok, no clause excludes an Err, and lines cannot fail.
+    // A number below 100 in decimal.
+    #[tactic(auto, using(crate::proofs::Decimals::decimal_is, crate::proofs::Decimals::short))]
     fn decimal(&mut self, n: usize)
         requires small { n < 100 }
         requires room { Room self.old 2 }
         ensures { Adds self.old (decimal n) self.new }
     {
-        if n < 10 {
-            self.byte((48 + n) as u8);
-        } else {
-            self.byte((48 + n / 10) as u8);
-            self.byte((48 + n % 10) as u8);
-        }
+        self.text(itoa::Buffer::new().format(n).as_bytes());
     }
 
     // A space and a number.
