@@ -146,8 +146,8 @@ impl Parameters {
 impl<'a> Code<'a> {
     ghost use Rattle.opening.specs.Viewed.{code, code_with, opened_as};
 
-    #[tactic(auto, unfolding(definitions::specs::CodeOperations::open_code))]
     // Open a code's description: the six fields, then the matrix. The answer is the first refusal of 1, 2, 3, 4 and 5 whose case holds.
+    #[tactic(auto, unfolding(definitions::specs::CodeOperations::open_code))]
     pub fn open(body: &'a [u8]) -> Result<Code<'a>, Refusal>
         ensures { opened_as result ≡ open_code body.now }
     {
