@@ -10,7 +10,7 @@ ghost use Rattle.opening.specs.Viewed.{code as the_code, code_with};
 
 use opening::{Code, Parameters};
 
-// Whether the symbols are below their bounds, which the matrix has no part in.
+// Whether the symbols are below their bounds, which no matrix is needed for.
 #[tactic(auto, unfolding(definitions::specs::Messages::symbols_fit))]
 pub fn symbols_fit(parameters: Parameters, message: &[u8]) -> bool
     requires { (2 ≤ parameters.m) × (parameters.r ≤ parameters.n) × (length message.now ≡ parameters.n) }
