@@ -38,13 +38,13 @@ none_marked t = record {
   only = λ v h. absurd (false≢true (sym (unmarked 256 v) ∙ h));
 }
 
--- l is the level of state s
-module _ (t : List ℕ) (marks : List Bool) (s l : ℕ) (h : Marked t marks s) (level : l ≡ at t s) where
+-- level is the level of state s
+module _ (t : List ℕ) (marks : List Bool) (s level : ℕ) (h : Marked t marks s) (is : level ≡ at t s) where
   -- the level is marked already
-  pub marked_twice : s < length t → mark marks l ≡ true → Permutation t → ⊥
+  pub marked_twice : s < length t → mark marks level ≡ true → Permutation t → ⊥
   marked_twice k e p =
-      let (i, y, q) = h.only l e in
-      let z = p.apart i s (omega arith) k (q ∙ level) in
+      let (i, y, q) = h.only level e in
+      let z = p.apart i s (omega arith) k (q ∙ is) in
       omega arith
 
 pub all_marked : (t : List ℕ) (marks : List Bool) (s : ℕ) → Marked t marks s → length t ≤ s → Permutation t

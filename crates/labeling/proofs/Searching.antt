@@ -7,16 +7,16 @@ use Rattle.std.specs.List.{position, position_or_len}
 use Rattle.std.specs.Prelude.{nat_eq, nat_lt, cond, not, Option, Some, None, unwrap_or}
 use Rattle.definitions.specs.Labels.{state_of}
 
-module _ (t : List ℕ) (l : ℕ) where
-  first_place : state_of t l ≡ position_or_len (λ x. nat_eq x l) t
-  first_place = is_position_or_len (λ u. state_of u l) (λ x. nat_eq x l) refl (λ x xs. ap (cond (nat_eq x l) 0) (omega arith)) t
+module _ (t : List ℕ) (level : ℕ) where
+  first_place : state_of t level ≡ position_or_len (λ x. nat_eq x level) t
+  first_place = is_position_or_len (λ u. state_of u level) (λ x. nat_eq x level) refl (λ x xs. ap (cond (nat_eq x level) 0) (omega arith)) t
 
-  pub state_found : (place : Option ℕ) → place ≡ position (λ x. nat_eq x l) t → unwrap_or place (length t) ≡ state_of t l
+  pub state_found : (place : Option ℕ) → place ≡ position (λ x. nat_eq x level) t → unwrap_or place (length t) ≡ state_of t level
   state_found place e = ap (λ (u : Option ℕ). unwrap_or u (length t)) e ∙ step (nat_lt first (length t)) refl ∙ sym first_place
     where
       first : ℕ
-      first = position_or_len (λ x. nat_eq x l) t
+      first = position_or_len (λ x. nat_eq x level) t
 
       step : (b : Bool) → nat_lt first (length t) ≡ b → unwrap_or (cond b (Some first) None) (length t) ≡ first
       step true h = refl
-      step false h = let low = prefix_len-le-length (λ x. not (nat_eq x l)) t in omega (arith, ltb-false first (length t) h)
+      step false h = let low = prefix_len-le-length (λ x. not (nat_eq x level)) t in omega (arith, ltb-false first (length t) h)
