@@ -6,6 +6,7 @@ ghost use Rattle.definitions.specs.Words.{at};
 ghost use Rattle.definitions.specs.PowersOfTwo.{log2, is_power_of_two};
 ghost use Rattle.definitions.specs.Packing.{symbol_at};
 
+// 2 to the k.
 pub fn power(k: usize) -> usize
     requires { k ≤ 16 }
     ensures { (result ≡ 2 ^ k) × (1 ≤ result) × (result ≤ 65536) }
@@ -32,6 +33,7 @@ pub fn log2(q: usize) -> usize
     (q - 1).ilog2() as usize + 1
 }
 
+// Whether q is a power of two.
 pub fn is_power_of_two(q: usize) -> bool
     requires { q ≤ 256 }
     ensures { result ≡ is_power_of_two q }

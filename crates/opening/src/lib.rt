@@ -22,7 +22,8 @@ pub struct Parameters {
     pub t: usize,
 }
 
-// An opened code or plane: its parameters, in range, and its matrix. The matrix, r rows of n - r entries, lies in the lent description.
+// An opened code or plane: its parameters, in range, and its matrix, r rows of n - r entries, which lies in the lent description. The six fields
+// stand here again and not as one, since the facts, and all that reads a code, name them one by one.
 #[derive(Clone, Copy)]
 pub struct Code<'a> {
     pub n: usize,
