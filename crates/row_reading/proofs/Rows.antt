@@ -19,7 +19,7 @@ use Rattle.row_reading.specs.Opening.{open_row}
 use Rattle.image.proofs.Checked.{Named, plan, stack, row_of}
 
 -- what follows the opening of a row follows the check of the image and of the number
-pub after_open :
+after_open :
     {B : Type 0} (x : List ℕ) (k : ℕ) (f : List ℕ × ℕ → Answer B)
     → after (open_row x k) f ≡ after (check_image x) λ u. refuse 2 when not (is_row x k) else f (x, k)
 after_open {B} x k f = step (check_image x) (is_row x k)
