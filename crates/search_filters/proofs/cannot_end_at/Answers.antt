@@ -1,12 +1,10 @@
-use Rattle.std.proofs.Common.{arith, rules}
-use Rattle.search_filters.proofs.Ranges.{none_from_any}
+use Rattle.std.proofs.Common.{ℕ}
+use Rattle.opening.specs.Viewed.{code}
+use Rattle.search_filters.specs.Filters.{Misses}
+use Rattle.search_filters.proofs.Columns.{up_to_more}
 use Rattle.search_filters.proofs.cannot_end_at.Goals as goal
 
-pub returns-then-left-eq1 : goal.returns-then-left-eq1
-returns-then-left-eq1 c = λ e. (
-  c.if-left-eq1.true,
-  λ g low high.
-      let missed = none_from_any _ _ c.any.result c.any.ensures.runs c.new.ensures.exhausted (search rules) (λ a r f k. search rules) g (omega arith)
-      (omega arith) in
-      search rules,
-)
+pub loop-mag-preserved : goal.loop-mag-preserved
+loop-mag-preserved c =
+    up_to_more (λ (g : ℕ). Misses (code c.args.code.now) c.args.cell g c.args.rest.now) c.loop-mag.mag c.loop-mag.invariant
+    (c.is_multiple.ensures c.if-is_multiple.false)
