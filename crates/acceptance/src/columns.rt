@@ -7,7 +7,7 @@ ghost use Rattle.acceptance.specs.Listing.{raised};
 
 use opening::Code;
 
-// A code and the columns of its n cells. An array, since the length of an ArrayVec would be one fact more.
+// A code and the columns of its n cells, in an array of 64: with an ArrayVec a third fact would say that there are n.
 #[derive(Drop)]
 pub struct Columns<'a> {
     pub code: Code<'a>,
@@ -21,8 +21,8 @@ impl<'a> Columns<'a> {
         ensures { result.code ≡ code.now }
     {
         let mut table = [[0u8; 16]; 64];
-        for cell in 0..code.n {
-            table[cell] = code.column_of(cell);
+        for (cell, column) in table[..code.n].iter_mut().enumerate() {
+            *column = code.column_of(cell);
         }
         Columns { code: *code, table }
     }

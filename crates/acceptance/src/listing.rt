@@ -1,5 +1,6 @@
 // Listing the patterns of a code: of each, in their order, the key of its syndrome is stored. The two functions that choose a cell and a
-// magnitude stand in the search too: there they break off at the first pattern that passes, and filter before each choice.
+// magnitude stand in the search too, a rule of this project: there they break off at the first pattern that passes, and filter before each choice.
+// within is of a syndrome and of the code beside it, so it is no fact of one type.
 ghost use Rattle.std.specs.Prelude.{◌≡◌, ◌+◌, ◌<◌, ◌≤◌, length};
 ghost use Rattle.definitions.specs.Words.{EachCell};
 ghost use Rattle.opening.specs.Viewed.{code as the_code};

@@ -92,6 +92,7 @@ impl Refusal {
     }
 }
 
+// By hand: what the kit's thiserror derives promises nothing of the words.
 impl fmt::Display for Refusal {
     ghost use Rattle.answers.specs.Answering.{refusal_words};
     ghost use Rattle.std.specs.Prelude.{Some};

@@ -5,7 +5,7 @@ ghost use Rattle.std.specs.Prelude.{◌≡◌, ◌+◌, ◌<◌, ◌≤◌, ◌^
 ghost use Rattle.definitions.specs.Packing.{symbol_at};
 
 // How many bits the symbol of each of n cells has: `wide` before the check cells, before which there are `leading` cells,
-// and `narrow` at them.
+// and `narrow` at them. Without facts, so that any can be made, as before; take_symbols asks that they are narrow.
 #[derive(Clone, Copy)]
 pub struct Layout {
     pub n: usize,

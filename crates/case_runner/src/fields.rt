@@ -48,7 +48,8 @@ fn split_once(s: &[u8], mark: u8) -> (&[u8], &[u8]) {
     (parts.next().unwrap_or(&[]), parts.next().unwrap_or(&[]))
 }
 
-// The number that a field's digits spell; other bytes are passed over, and so are digits for which 64 bits may have no room.
+// The number that a field's digits spell; other bytes are passed over, and so are digits for which 64 bits may have no room: `parse` would
+// refuse both.
 pub fn number(field: &[u8]) -> u64 {
     let mut number = 0;
     for b in field {

@@ -17,7 +17,8 @@ use candidate_patterns::asked::Asked;
 use opening::Code;
 use search::Pattern;
 
-// The word less the pattern. The word is read by index: of a buffer written through `iter_mut().zip(..)` a proof knows nothing.
+// The word less the pattern. The word is read by index: of a buffer written through `iter_mut().zip(..)` a proof knows nothing,
+// and a copy changed in place would write each cell twice.
 fn store_decoded(word: &[u8], k: Risen, out: &mut [u8])
     requires { length out.old ≡ length word.now }
     ensures { out.new ≡ subtract word.now (word_of (length word.now) k) }

@@ -22,7 +22,7 @@ pub fn symbols_fit(parameters: Parameters, message: &[u8]) -> bool
 }
 
 // Store the codeword of a message: its data cells are the message's symbols, and each check cell has its symbol times M plus what makes the
-// syndrome's entry 0.
+// syndrome's entry 0. The message is read by index: of a buffer written through `iter_mut().zip(..)` a proof knows nothing.
 pub fn store_codeword(code: &Code, message: &[u8], out: &mut [u8])
     requires fits { symbols_fit (the_code code.now) message.now ≡ true }
     requires long { length message.now ≡ code.now.n }

@@ -1,6 +1,6 @@
 // The operations on codes.
 
-ghost use Rattle.std.specs.Prelude.{◌≡◌, ℕ, length, IfOk};
+ghost use Rattle.std.specs.Prelude.{◌≡◌};
 ghost use Rattle.definitions.specs.Acceptance.{Accepted, accepted};
 ghost use Rattle.definitions.specs.Codes.{code_of};
 ghost use Rattle.definitions.specs.Codewords.{is_codeword};

@@ -4,7 +4,7 @@
 #![tactic(auto)]
 
 ghost use Rattle.std.specs.Prelude.{◌≡◌, ◌↔◌, Bool, true, List, ℕ, ◌<◌, length, IfOk};
-ghost use Rattle.definitions.specs.Words.{all_below, EachCell};
+ghost use Rattle.definitions.specs.Words.{all_below};
 ghost use Rattle.definitions.specs.Answers.{Answer, result as left_by};
 ghost use Rattle.definitions.specs.Demands as demands;
 ghost use Rattle.definitions.specs.Demands.{OneToOne, Tested, OneCodeword, Recovered, DistanceDecides, KeepsMessages};
@@ -76,6 +76,7 @@ pub trait Codec {
         requires room { length out.old ≡ cells self.now }
         ensures { out.new ≡ (coding self.now).encoded message.now };
 
+    // long and below, here and in is_codeword, are of a word and of self, so they are no facts of one type.
     fn search(&self, word: &[u8], out: &mut [u8]) -> Result<Self::Found, Refusal>
         requires long { length word.now ≡ cells self.now }
         requires room { length out.old ≡ cells self.now }

@@ -1,6 +1,6 @@
 // The operations on stacks.
 
-ghost use Rattle.std.specs.Prelude.{◌≡◌, ℕ, length};
+ghost use Rattle.std.specs.Prelude.{◌≡◌, length};
 ghost use Rattle.definitions.specs.Stacks.{levels};
 ghost use Rattle.definitions.specs.StackCodewords.{is_stack_codeword, StackCodeword, AcceptedStack, accepted_stack};
 ghost use Rattle.definitions.specs.StackMessages.{message_length, StackMessage, digits_fit};

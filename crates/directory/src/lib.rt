@@ -30,8 +30,8 @@ impl Kind {
     }
 }
 
-// An entry: the number of its kind, its reference, its body's offset and length. The number, since an entry of an image that was not checked
-// can have one that is no kind's.
+// An entry: the number of its kind, its reference, its body's offset and length. The number, which entry_at promises,
+// since an entry of an image that was not checked can have one that is no kind's.
 #[derive(Clone, Copy, Debug, PartialEq, Eq)]
 pub struct Entry {
     pub kind: u8,

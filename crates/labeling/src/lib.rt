@@ -42,7 +42,8 @@ fn state_of(table: &[u8], level: Level) -> State
     State(place_of(table, level).unwrap_or(table.len()) as u8)
 }
 
-// A scale, whose cells a label table turns into those of the other.
+// A scale, whose cells a label table turns into those of the other. That a table has at most 64 entries stays a clause: a type for it would be
+// longer.
 trait Scale {
     ghost turned: { List ℕ → ℕ → ℕ };
 
@@ -190,7 +191,8 @@ fn check(table: &[u8], input: &[u8], room: usize) -> Result<(), Refusal>
     Ok(())
 }
 
-// A table applied to cells of one scale. The input is read by index: of a buffer written through `iter_mut().zip(..)` a proof knows nothing.
+// A table applied to cells of one scale. The input is read by index: of a buffer written through `iter_mut().zip(..)` a proof knows nothing,
+// and a copy changed in place would write each cell twice.
 #[tactic(auto, using(crate::proofs::Applying::same_length, crate::proofs::Applying::table_small, crate::proofs::Applying::input_below))]
 fn apply<S: Scale>(table: &[u8], input: &[u8], out: &mut [u8]) -> Result<(), Refusal>
     ensures { leaves (answer_of result) out.new ≡ applied (S.turned table.now) table.now input.now out.old }

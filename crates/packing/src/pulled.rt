@@ -1,5 +1,5 @@
 // Making bytes: the bits that were pulled from a message and stand in no byte yet.
-ghost use Rattle.std.specs.Prelude.{◌≡◌, ℕ, ◌+◌, ◌^◌, ◌<◌, ◌≤◌, length};
+ghost use Rattle.std.specs.Prelude.{◌≡◌, ℕ, ◌+◌, ◌^◌, ◌<◌, length};
 ghost use Rattle.definitions.specs.Words.{at};
 ghost use Rattle.definitions.specs.Packing.{bytes_of, bits_of};
 ghost use Rattle.bit_reader.specs.Taking.{width_in, Narrow};

@@ -3,7 +3,7 @@
 
 use answers::{Outcome, Refusal};
 
-// A buffer with the place up to which it is written.
+// A lent buffer with the place up to which it is written. How much room is left stands in each clause, since each asks for another number.
 #[derive(Drop)]
 pub struct Lines<'a> {
     pub out: &'a mut [u8],
@@ -11,7 +11,7 @@ pub struct Lines<'a> {
 }
 
 impl<'a> Lines<'a> {
-    ghost use Rattle.std.specs.Prelude.{◌≡◌, [], ◌∷◌, ◌++◌, ◌+◌, ◌*◌, ◌<◌, ◌≤◌, length};
+    ghost use Rattle.std.specs.Prelude.{[], ◌∷◌, ◌++◌, ◌+◌, ◌*◌, ◌<◌, length};
     ghost use Rattle.definitions.specs.Words.{EachCell};
     ghost use Rattle.definitions.specs.CartridgeLists.{refused_text, count_text, levels_text, decimal, newline, spaced, outcome_text, row_line, image_line};
     ghost use Rattle.answers.specs.Answering.{refusal_number, outcome_as, leaves};
@@ -42,7 +42,7 @@ impl<'a> Lines<'a> {
         self.byte(b'\n');
     }
 
-    // A number below 100 in decimal.
+    // A number below 100 in decimal. The bound stays a clause, here and below: a type for it would be longer.
     #[tactic(auto, using(crate::proofs::Decimals::decimal_is, crate::proofs::Decimals::short))]
     fn decimal(&mut self, n: usize)
         requires small { n < 100 }

@@ -1,12 +1,9 @@
 // The first error pattern with a syndrome, shared by codes and digit planes: two functions that choose a cell and a magnitude.
 #![tactic(auto)]
 
-ghost use Rattle.std.specs.Prelude.{◌≡◌, true, ℕ, ◌+◌, ◌<◌, ◌≤◌, length, IfSome};
-ghost use Rattle.definitions.specs.Words.{at, all_below};
-ghost use Rattle.definitions.specs.Codewords.{syndrome_entry};
+ghost use Rattle.std.specs.Prelude.{◌≡◌, ◌+◌, ◌<◌, ◌≤◌, length, IfSome};
 ghost use Rattle.definitions.specs.Patterns.{patterns_of};
 ghost use Rattle.definitions.specs.Decoding.{first};
-ghost use Rattle.candidate_patterns.specs.Candidates.{word_of, Remains};
 ghost use Rattle.opening.specs.Viewed.{code as the_code};
 ghost use Rattle.search.specs.Search.{Reached, cells_left, magnitudes_left, seek, sought_as, NoneWithOne, found_word, CountsOf};
 ghost use Rattle.candidate_patterns.specs.Candidates.{test_for};
@@ -59,7 +56,8 @@ fn test_pattern(a: &Asked, rest: &[u8; 12], k: Choices) -> ControlFlow<(Risen, u
 }
 
 // The next cell is chosen. With a table of last cells, the cells that cannot end a pattern are passed over. This function and the next stand in
-// acceptance too: there they store the key of each pattern, and filter nothing; here they break off at the first that passes.
+// acceptance too, a rule of this project: there they store the key of each pattern, and filter nothing; here they break off at the first that
+// passes. Reached is of the question, the choices and what remains, three values that change apart, so it is no fact of one type.
 #[cycle(choosing)]
 fn choose_cell(
     a: &Asked,

@@ -59,7 +59,8 @@ fn mark(m: u8, l: usize, column: [u8; 12], cell: usize, last: &mut [u8; 4096])
     }
 }
 
-// At each hash the number, from 1, of the last cell that has a multiple with it, in a table of zeros.
+// At each hash the number, from 1, of the last cell that has a multiple with it, in a table of zeros. 0 stands for none, so that one comparison
+// with a cell is enough where an Option would be taken apart.
 pub fn mark_cells(code: &Code, last: &mut [u8; 4096])
     requires { ((h : ℕ) → at last.old h ≡ 0) × (length last.old ≡ 4096) }
     ensures { LastCells (the_code code.now) last.new }

@@ -62,7 +62,7 @@ fn distance(x: &[u8], y: &[u8]) -> usize
 
 // From plane 0 upward the first pattern with the syndrome of the present levels' digits lowers them; the count is of the cells that
 // differ in the end. The first plane in which there is none is the refusal's. The levels stand in an array, since the output is written
-// only after all refusals, and the library asks for no memory.
+// only after all refusals; what fills an ArrayVec from a slice can fail.
 pub fn decode(stack: &Stack, word: &[u8], out: &mut [u8]) -> Result<usize, Refusal>
     requires long { length word.now ≡ stack.now.n }
     requires room { length out.old ≡ stack.now.n }

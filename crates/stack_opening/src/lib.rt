@@ -1,7 +1,7 @@
 // Opening a stack's description: from its bytes to a stack as one value, with its planes, or to a refusal.
 #![tactic(auto)]
 
-ghost use Rattle.std.specs.Prelude.{◌≡◌, ℕ, ◌≤◌, map, All, IsTrue};
+ghost use Rattle.std.specs.Prelude.{◌≡◌, ◌≤◌, map, All, IsTrue};
 ghost use Rattle.definitions.specs.Stacks.{product};
 ghost use Rattle.definitions.specs.StackMessages.{message_length};
 ghost use Rattle.definitions.specs.StackOperations.{stack_in_range, open_stack};
@@ -18,7 +18,8 @@ pub use plane::Plane;
 // The most levels of a stack.
 const MOST_LEVELS: usize = 64;
 
-// An opened stack: its cells, its planes, its levels and the symbols of a message.
+// An opened stack: its cells, its planes, its levels and the symbols of a message. It is lent and never copied, so that it needs no Copy, which
+// an ArrayVec has not.
 #[derive(Drop)]
 pub struct Stack<'a> {
     pub n: usize,

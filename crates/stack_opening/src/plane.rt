@@ -1,5 +1,5 @@
 // Planes, and opening one at the head of the bytes left.
-ghost use Rattle.std.specs.Prelude.{◌≡◌, ℕ, ◌+◌, ◌<◌, ◌≤◌, length, IfOk, IsTrue};
+ghost use Rattle.std.specs.Prelude.{◌≡◌, ◌+◌, ◌<◌, ◌≤◌, length, IfOk, IsTrue};
 ghost use Rattle.definitions.specs.StackOperations.{plane_in_range, open_plane};
 ghost use Rattle.opening.specs.Viewed.{opened_as};
 

@@ -1,7 +1,7 @@
 // What the operations on stacks do besides searching: acceptance, the tests of words and messages, and what recover and encode store.
 #![tactic(auto)]
 
-ghost use Rattle.std.specs.Prelude.{◌≡◌, true, ◌-◌, ◌/◌, ◌%◌, ◌<◌, ◌≤◌, length, take, All};
+ghost use Rattle.std.specs.Prelude.{◌≡◌, true, ◌-◌, ◌/◌, ◌%◌, ◌<◌, ◌≤◌, length, All};
 ghost use Rattle.std.specs.List.{list_all};
 ghost use Rattle.definitions.specs.Words.{at, all_below};
 ghost use Rattle.definitions.specs.Acceptance.{accepted};
@@ -40,7 +40,7 @@ fn digit(level: u8, w: usize, c: usize) -> u8
     (usize::from(level) / w % c) as u8
 }
 
-// The digits of a word's levels.
+// The digits of a word's levels. That it has at most 64 stays a clause, here and below: a type for it would be longer.
 pub fn digits(word: &[u8], w: usize, c: usize) -> ArrayVec<u8, 64>
     requires { (length word.now ≤ 64) × (1 ≤ w) × (1 ≤ c) }
     ensures digits { result.items ≡ digits w c word.now }
