@@ -21,8 +21,8 @@ impl<'a> Columns<'a> {
         ensures { result.code ≡ code.now }
     {
         let mut table = [[0u8; 16]; 64];
-        for (cell, column) in table[..code.n].iter_mut().enumerate() {
-            *column = code.column_of(cell);
+        for cell in 0..code.n {
+            table[cell] = code.column_of(cell);
         }
         Columns { code: *code, table }
     }
