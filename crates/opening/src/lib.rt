@@ -228,17 +228,12 @@ impl<'a> Code<'a> {
         column
     }
 
-    // Whether all r entries of the word's syndrome are 0. A loop: by `all` over the range, recovering a message took 1.2 times as long.
+    // Whether all r entries of the word's syndrome are 0.
     pub fn has_zero_syndrome(&self, word: &[u8]) -> bool
         requires { length word.now ≡ self.now.n }
         ensures { result ≡ all_zero (syndrome (code self.now) word.now) }
     {
-        for i in 0..self.r {
-            if self.syndrome_entry(word, i) != 0 {
-                return false;
-            }
-        }
-        true
+        (0..self.r).all(|i| self.syndrome_entry(word, i) == 0)
     }
 
     // What the level of check cell i + 1 is modulo m, so that it makes the syndrome's entry i 0.

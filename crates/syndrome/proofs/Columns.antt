@@ -1,17 +1,16 @@
 -- Columns, and the entries of a syndrome beyond the matrix.
 use mathlib.Core.Path.{◌≡◌, refl, sym, ap, ap₂, ◌∙◌}
 use mathlib.Core.Bool.{Bool, true, false, cond}
-use mathlib.Core.List.{List, ◌++◌, map}
+use mathlib.Core.List.{List, ◌++◌}
 use Prim.Native.Nat.{ℕ, zero, suc, ◌+◌, ◌*◌, ◌-◌, ◌%◌, ◌≤◌, ◌<◌}
 use native.Mathlib.Nat.{zero-mul, mod-eq_of_lt, mul-le-mul_right}
 use native.Mathlib.Decide.{dec_lt}
-use native.Mathlib.Numerals.{add-one}
 use native.Mathlib.Omega.{arith}
 use lib.Dec.{eqb, ltb}
 use lib.ListN.{length, drop, replicate}
 use Rattle.std.proofs.lemmas.List.{get_or_append_left, get_or-append_right, get_or-drop}
 use borrow.Author.Tests.{lt-ltb, le-ltb, eq-eqb, ne_eqb}
-use Rattle.definitions.specs.Words.{at, sum_to, up_from, all_zero, EachCell}
+use Rattle.definitions.specs.Words.{at, sum_to, EachCell}
 use Rattle.definitions.specs.Codes.{Code, data_cells}
 use Rattle.definitions.specs.Codewords.{syndrome_entry}
 use Rattle.word_laws.proofs.Cells.{at-past, each_at}
@@ -97,11 +96,3 @@ module _ (p : Code) (i c : ℕ) where
   pub column-other : data_cells p ≤ c → (c ≡ data_cells p + i → ⊥) → 0 ≡ column p i c
   unfolding column
   column-other h e = simp (le-ltb c (data_cells p) h, ne_eqb c (data_cells p + i) e)
-
--- the entries from the one numbered i on: is each of r 0?
-module _ (f : ℕ → ℕ) (r i : ℕ) where
-  abbrev pub zeros_from : Bool
-  zeros_from = all_zero (map f (up_from i (r - i)))
-
-pub zero_miss : (f : ℕ → ℕ) (r i : ℕ) → i < r → f i ≡ 0 → zeros_from f r i ≡ zeros_from f r (i + 1)
-zero_miss f r i h g = let e : r - i ≡ suc (r - suc i) = omega arith in rw (add-one, e, eq-eqb (f i) 0 g)
