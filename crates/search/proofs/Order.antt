@@ -42,12 +42,12 @@ module _ (p : Code) (k : Risen) (left cell mag : ℕ) where
   mag_none h = splits.no_magnitude more ended step p.l p.n (word_of cell k) left cell mag h
 
   pub mag_more :
-      (g : ℕ) → mag + 1 ≡ g → g ≤ p.l → Chosen k left cell → 1 ≤ left
-      → magnitudes_from p k left cell mag ≡ cells_from p (added k cell g) (left - 1) (cell + 1) ++ magnitudes_from p k left cell g
+      mag < p.l → Chosen k left cell → 1 ≤ left
+      → magnitudes_from p k left cell mag ≡ cells_from p (added k cell (mag + 1)) (left - 1) (cell + 1) ++ magnitudes_from p k left cell (mag + 1)
   unfolding cells_from magnitudes_from
-  mag_more g e h s one =
-      rw (← e, word_more cell k' (mag + 1) here, word_same cell k' k below)
-      (splits.at_magnitude more ended step p.l p.n (word_of cell k) left cell mag (omega arith))
+  mag_more h s one =
+      rw (word_more cell k' (mag + 1) here, word_same cell k' k below)
+      (splits.at_magnitude more ended step p.l p.n (word_of cell k) left cell mag h)
     where
       k' : Risen
       k' = added k cell (mag + 1)

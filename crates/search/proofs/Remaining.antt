@@ -69,25 +69,24 @@ module _ (p : codes.Code) (s : List ℕ) (k : Risen) (left cell : ℕ) (ch : Cho
 pub columns_below : (p : Code) (cell i : ℕ) → column (viewed.code p) i cell < p.m
 columns_below p cell i = column-below (viewed.code p) i cell (omega arith) (below_each p.m p.matrix.now (rw p.entries tt))
 
--- the cell has the magnitude g: the choices then, and the patterns still to be tried in two parts
+-- the cell has one magnitude more: the choices then, and the patterns still to be tried in two parts
 pub with_magnitude :
-    (a : Asked) (k : Choices) (rest : List ℕ) → Reached a k rest × (1 ≤ k.left) × (k.cell < a.code.n) → (g : ℕ) → 1 ≤ g → g ≤ a.code.l
+    (a : Asked) (k : Choices) (rest : List ℕ) → Reached a k rest × (1 ≤ k.left) × (k.cell < a.code.n) → (mag : ℕ) → mag < a.code.l
     → (tried : ℕ) (entries next lowered : List ℕ) → ((i : ℕ) → at entries i ≡ column (viewed.code a.code) i k.cell)
     → ((i : ℕ) → at lowered i ≡ less_modulo a.code.m (at next i) (at entries i))
-    → Remains (viewed.code a.code) a.s (added k.risen k.cell (g - 1)) next
-    → Reached a (record { risen = added k.risen k.cell g; left = k.left - 1; cell = k.cell + 1; tried = tried }) lowered
-    × (magnitudes_from (viewed.code a.code) k.risen k.left k.cell (g - 1)
-    ≡ cells_from (viewed.code a.code) (added k.risen k.cell g) (k.left - 1) (k.cell + 1) ++ magnitudes_from (viewed.code a.code) k.risen k.left k.cell g)
-with_magnitude a k rest (reached, one, here) g low high tried entries next lowered is less r =
-    let p = viewed.code a.code in
-    let e : g - 1 + 1 ≡ g = omega arith in (
+    → Remains (viewed.code a.code) a.s (added k.risen k.cell mag) next
+    → Reached a (record { risen = added k.risen k.cell (mag + 1); left = k.left - 1; cell = k.cell + 1; tried = tried }) lowered
+    × (magnitudes_from (viewed.code a.code) k.risen k.left k.cell mag
+    ≡ cells_from (viewed.code a.code) (added k.risen k.cell (mag + 1)) (k.left - 1) (k.cell + 1)
+    ++ magnitudes_from (viewed.code a.code) k.risen k.left k.cell (mag + 1))
+with_magnitude a k rest (reached, one, here) mag below tried entries next lowered is less r =
+    let p = viewed.code a.code in (
       record {
-        chosen = chosen-added k.risen k.left k.cell g reached.chosen one;
+        chosen = chosen-added k.risen k.left k.cell (mag + 1) reached.chosen one;
         cells = omega arith;
         remains =
-            rw (← e)
-            (remains-next p a.s k.risen k.left k.cell reached.chosen one (g - 1) next lowered here (columns_below a.code k.cell) r
-            (λ i. less i ∙ ap (less_modulo a.code.m (at next i)) (is i)));
+            remains-next p a.s k.risen k.left k.cell reached.chosen one mag next lowered here (columns_below a.code k.cell) r
+            (λ i. less i ∙ ap (less_modulo a.code.m (at next i)) (is i));
       },
-      mag_more p k.risen k.left k.cell (g - 1) g e high reached.chosen one,
+      mag_more p k.risen k.left k.cell mag below reached.chosen one,
     )

@@ -43,7 +43,7 @@ module _ (p : Code) (k : Risen) (f : List ℕ → Bool) where
     where
       split : magnitudes_from p k 1 c mag ≡ (word_of p.n (added k c (mag + 1)) ∷ []) ++ magnitudes_from p k 1 c (mag + 1)
       split =
-          mag_more p k 1 c mag (mag + 1) refl (omega arith) ch (omega arith)
+          mag_more p k 1 c mag (omega arith) ch (omega arith)
           ∙ ap (λ (l : List (List ℕ)). l ++ magnitudes_from p k 1 c (mag + 1))
           (all_chosen p (added k c (mag + 1)) 0 (c + 1) refl (omega arith) (chosen-added k 1 c (mag + 1) ch (omega arith)).before)
 

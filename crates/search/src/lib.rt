@@ -101,14 +101,14 @@ fn choose_magnitude(
     let all = byte_helpers::times(a.code.n - (k.cell + 1), a.code.l);
     let mut next = *rest;
     let mut tried = k.tried;
-    for magnitude in 1..=a.code.l {
+    for mag in 0..a.code.l {
         let y = search_filters::lowered(a.code.m as u8, next, column);
         tried = if search_filters::cannot_end_from(last, k.left - 1, k.cell + 1, &y) {
             tried + all
         } else {
             let rise = Rise {
                 cell: k.cell,
-                magnitude,
+                magnitude: mag + 1,
             };
             let risen = Risen {
                 rises: [rise, k.risen.rises[0], k.risen.rises[1]],

@@ -67,8 +67,8 @@ choose_cell-returns t c =
     let l = c.loop-cell in
     seek_none (test_for a) _ _ (cell_none (code a.code) k.risen k.left l.cell (omega arith) c.loop-cell-test.false) ∙ sym l.invariant.same
 
-pub choose_magnitude-loop-magnitude-init : goal.choose_magnitude-loop-magnitude-init
-choose_magnitude-loop-magnitude-init t c =
+pub choose_magnitude-loop-mag-init : goal.choose_magnitude-loop-mag-init
+choose_magnitude-loop-mag-init t c =
     let a = c.args.a.now in
     let k = c.args.k in
     let (reached, some, cell) = c.requires.reached in
@@ -83,14 +83,14 @@ choose_magnitude-lowered-y-requires t c =
     let p = c.args.a.now.code in
     let small : (i : ℕ) → at c.column_of-column.result i < p.m =
     λ i. omega (arith, c.column_of-column.ensures.entry i, columns_below p c.args.k.cell i) in
-    (omega arith, c.loop-magnitude.invariant.remains.below, small)
+    (omega arith, c.loop-mag.invariant.remains.below, small)
 
 pub choose_magnitude-choose_cell-requires : goal.choose_magnitude-choose_cell-requires
 choose_magnitude-choose_cell-requires t c =
     let a = c.args.a.now in
     let k = c.args.k in
-    let l = c.loop-magnitude in
-    let (after, split) = with_magnitude a k c.args.rest.now c.requires.reached l.magnitude l.auto.magnitude c.loop-magnitude-test.true l.tried _ l.next _
+    let l = c.loop-mag in
+    let (after, split) = with_magnitude a k c.args.rest.now c.requires.reached l.mag c.loop-mag-test.true l.tried _ l.next _
     c.column_of-column.ensures.entry c.lowered-y.ensures l.invariant.remains in
     let falls : 2 * (k.left - 1) < t = let m = c.decreases in omega arith in
     (falls, (after, (room-first _ _ _ l.tried 4096 split l.invariant.room, c.requires.table)))
@@ -99,55 +99,36 @@ pub choose_magnitude-returns-in_err-tried : goal.choose_magnitude-returns-in_err
 choose_magnitude-returns-in_err-tried t c =
     let a = c.args.a.now in
     let k = c.args.k in
-    let l = c.loop-magnitude in
-    let (after, split) = with_magnitude a k c.args.rest.now c.requires.reached l.magnitude l.auto.magnitude c.loop-magnitude-test.true l.tried _ l.next _
+    let l = c.loop-mag in
+    let (after, split) = with_magnitude a k c.args.rest.now c.requires.reached l.mag c.loop-mag-test.true l.tried _ l.next _
     c.column_of-column.ensures.entry c.lowered-y.ensures l.invariant.remains in
     let given = c.branch-tried.ensures ∙ ap control_flow_from_branch c.in_err-tried.is in
     ap (sought_as a.code.n) (c.from_residual.ensures ∙ sym given) ∙ part_hit a.code.n (test_for a) _ _ _ l.tried split _ _ given c.choose_cell.ensures
     ∙ sym l.invariant.same
 
-pub choose_magnitude-loop-magnitude-preserved : goal.choose_magnitude-loop-magnitude-preserved
-choose_magnitude-loop-magnitude-preserved t c =
+pub choose_magnitude-loop-mag-preserved : goal.choose_magnitude-loop-mag-preserved
+choose_magnitude-loop-mag-preserved t c =
     let a = c.args.a.now in
     let k = c.args.k in
-    let l = c.loop-magnitude in
-    let (after, split) = with_magnitude a k c.args.rest.now c.requires.reached l.magnitude l.auto.magnitude c.loop-magnitude-test.true l.tried _ l.next _
+    let l = c.loop-mag in
+    let (after, split) = with_magnitude a k c.args.rest.now c.requires.reached l.mag c.loop-mag-test.true l.tried _ l.next _
     c.column_of-column.ensures.entry c.lowered-y.ensures l.invariant.remains in
     let gave : (none, c.if-cannot_end_from.tried)
-    ≡ seek (test_for a) (cells_from (code a.code) (added k.risen k.cell l.magnitude) (k.left - 1) (k.cell + 1)) l.tried =
+    ≡ seek (test_for a) (cells_from (code a.code) (added k.risen k.cell (l.mag + 1)) (k.left - 1) (k.cell + 1)) l.tried =
     elim c.if-cannot_end_from.branch [
       | choose_magnitude-then-cannot_end_from w ↦
           passed_over a _ _ _ after c.requires.table (c.cannot_end_from.ensures w.if-cannot_end_from.true) _ _ c.times-all.ensures.0 w.tried-is
       | choose_magnitude-else-cannot_end_from+in_ok-tried w ↦
           went_on a.code.n _ _ _ _ (w.branch-tried.ensures ∙ ap control_flow_from_branch w.in_ok-tried.is) w.tried-is w.choose_cell.ensures
     ] in
-    let e : l.magnitude + 1 - 1 ≡ l.magnitude = omega arith in
     record {
-      remains = rw e after.remains;
-      room = rw e (room_next (test_for a) _ _ _ l.tried _ 4096 split l.invariant.room gave);
-      same = rw e (l.invariant.same ∙ seek_skip (test_for a) _ _ _ l.tried split _ gave);
+      remains = after.remains;
+      room = room_next (test_for a) _ _ _ l.tried _ 4096 split l.invariant.room gave;
+      same = l.invariant.same ∙ seek_skip (test_for a) _ _ _ l.tried split _ gave;
     }
-
-pub choose_magnitude-returns-after-cannot_end_from : goal.choose_magnitude-returns-after-cannot_end_from
-choose_magnitude-returns-after-cannot_end_from t c =
-    let a = c.args.a.now in
-    let k = c.args.k in
-    let l = c.loop-magnitude in
-    let (after, split) = with_magnitude a k c.args.rest.now c.requires.reached l.magnitude l.auto.magnitude c.loop-magnitude-test.true l.tried _ l.next _
-    c.column_of-column.ensures.entry c.lowered-y.ensures l.invariant.remains in
-    let gave : (none, c.if-cannot_end_from.tried)
-    ≡ seek (test_for a) (cells_from (code a.code) (added k.risen k.cell l.magnitude) (k.left - 1) (k.cell + 1)) l.tried =
-    elim c.if-cannot_end_from.branch [
-      | choose_magnitude-then-cannot_end_from w ↦
-          passed_over a _ _ _ after c.requires.table (c.cannot_end_from.ensures w.if-cannot_end_from.true) _ _ c.times-all.ensures.0 w.tried-is
-      | choose_magnitude-else-cannot_end_from+in_ok-tried w ↦
-          went_on a.code.n _ _ _ _ (w.branch-tried.ensures ∙ ap control_flow_from_branch w.in_ok-tried.is) w.tried-is w.choose_cell.ensures
-    ] in
-    seek_none (test_for a) _ _ (mag_none (code a.code) k.risen k.left k.cell l.magnitude (omega arith))
-    ∙ sym (l.invariant.same ∙ seek_skip (test_for a) _ _ _ l.tried split _ gave)
 
 pub choose_magnitude-returns : goal.choose_magnitude-returns
 choose_magnitude-returns t c =
-    let l = c.loop-magnitude in
-    seek_none (test_for c.args.a.now) _ _ (mag_none (code c.args.a.now.code) c.args.k.risen c.args.k.left c.args.k.cell (l.magnitude - 1) (omega arith))
+    let l = c.loop-mag in
+    seek_none (test_for c.args.a.now) _ _ (mag_none (code c.args.a.now.code) c.args.k.risen c.args.k.left c.args.k.cell l.mag (omega arith))
     ∙ sym l.invariant.same

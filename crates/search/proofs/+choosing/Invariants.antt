@@ -21,10 +21,10 @@ invariant-choose_cell-loop-cell l = record {
       ≡ seek (test_for l.a) (cells_from (code l.a.code) l.k.risen l.k.left l.cell) l.tried;
 }
 
-abbrev pub invariant-choose_magnitude-loop-magnitude : goal.invariant-choose_magnitude-loop-magnitude
-invariant-choose_magnitude-loop-magnitude l = record {
-  remains : Remains (code l.a.code) l.a.s (added l.k.risen l.k.cell (l.magnitude - 1)) l.next;
-  room : l.tried + length (magnitudes_from (code l.a.code) l.k.risen l.k.left l.k.cell (l.magnitude - 1)) ≤ 4096;
+abbrev pub invariant-choose_magnitude-loop-mag : goal.invariant-choose_magnitude-loop-mag
+invariant-choose_magnitude-loop-mag l = record {
+  remains : Remains (code l.a.code) l.a.s (added l.k.risen l.k.cell l.mag) l.next;
+  room : l.tried + length (magnitudes_from (code l.a.code) l.k.risen l.k.left l.k.cell l.mag) ≤ 4096;
   same : seek (test_for l.a) (magnitudes_from (code l.a.code) l.k.risen l.k.left l.k.cell 0) l.k.tried
-      ≡ seek (test_for l.a) (magnitudes_from (code l.a.code) l.k.risen l.k.left l.k.cell (l.magnitude - 1)) l.tried;
+      ≡ seek (test_for l.a) (magnitudes_from (code l.a.code) l.k.risen l.k.left l.k.cell l.mag) l.tried;
 }
