@@ -84,7 +84,8 @@ fn choose_cell(
     ControlFlow::Continue(tried)
 }
 
-// The magnitude of the cell is chosen, then the next cell.
+// The magnitude of the cell is chosen, then the next cell. Magnitudes are counted from 0: by `1..=l` a search for one cell took 1.17 times as
+// long, and the proof had its step twice.
 #[cycle(choosing)]
 fn choose_magnitude(
     a: &Asked,
