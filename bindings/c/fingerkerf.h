@@ -42,7 +42,8 @@ extern "C" {
 #endif
 
 /* What reading answers. A row given back: number 0, the count of changed cells, the patterns tried, plane 0. Tried is the place,
- * counted from 1, of the given pattern in document 01's order: 1 for a row that was a codeword, at most P; 0 for a stack.
+ * counted from 1, of the given pattern in document 01's order: 1 for a row that was a codeword, at most P; 0 for a stack, and where a
+ * table was read.
  * A refusal: its number, count 0, tried 0; with a stack's 11 the plane, from 0, that has no pattern. */
 typedef struct {
     size_t number;
@@ -81,6 +82,13 @@ size_t levels_encode(const uint8_t *body, size_t body_len, const uint8_t *messag
 levels_reading levels_decode(const uint8_t *body, size_t body_len, const uint8_t *word, size_t word_len, uint8_t *out, size_t out_len);
 /* Recover the message of a codeword: word of n levels to out of n symbols. */
 size_t levels_recover(const uint8_t *body, size_t body_len, const uint8_t *word, size_t word_len, uint8_t *out, size_t out_len);
+
+/* Read a word of the binary Golay code of 23 cells, without a description: q is even, 2 to 64, word and out have 23 cells. It answers and
+ * writes what levels_decode does with that code's description, but for tried, which is 0: the pattern is looked up in a table of 2,048, and
+ * nothing is searched. The description is 23 11 q 2 1 3 and the matrix whose column j, from 1 to 12, is the remainder of x^(23-j) by
+ * x^11 + x^9 + x^7 + x^6 + x^5 + x + 1, modulo 2, with the coefficient of x^(11-k) in row k. That code is accepted for every such q.
+ * Refusals, in this order: 2 for q, all values of it; 8; 10; 11. */
+levels_reading levels_decode_golay(size_t q, const uint8_t *word, size_t word_len, uint8_t *out, size_t out_len);
 
 /* Stacks, likewise. A message has levels_stack_symbols digits. */
 size_t levels_test_stack(const uint8_t *body, size_t body_len);

@@ -11,7 +11,7 @@ interface
 
 type
   { A row given back: number 0, count, tried, plane 0; a refusal: its number, and the plane with a stack's 11. tried is the place,
-    counted from 1, of the given pattern in document 01's order; 0 for a stack. }
+    counted from 1, of the given pattern in document 01's order; 0 for a stack, and where a table was read. }
   TReading = record
     number, count, tried, plane: SizeUInt;
   end;
@@ -39,6 +39,11 @@ function levels_decode(body: PByte; bodyLen: SizeUInt; word_: PByte; wordLen: Si
   outp: PByte; outLen: SizeUInt): TReading; cdecl; external;
 function levels_recover(body: PByte; bodyLen: SizeUInt; word_: PByte; wordLen: SizeUInt;
   outp: PByte; outLen: SizeUInt): SizeUInt; cdecl; external;
+
+{ A word of the binary Golay code of 23 cells, by a table: q is even, 2 to 64. It reads as levels_decode with that code's description,
+  but for tried, which is 0. }
+function levels_decode_golay(q: SizeUInt; word_: PByte; wordLen: SizeUInt;
+  outp: PByte; outLen: SizeUInt): TReading; cdecl; external;
 
 function levels_test_stack(body: PByte; bodyLen: SizeUInt): SizeUInt; cdecl; external;
 function levels_encode_stack(body: PByte; bodyLen: SizeUInt; message: PByte; messageLen: SizeUInt;

@@ -12,7 +12,7 @@ pub struct Reading {
     pub number: usize,
     /// Cells that were changed.
     pub count: usize,
-    /// Error patterns tried: the place, from 1 to P, of the given pattern in document 01's order; 0 with a stack or a refusal.
+    /// Error patterns tried: the place, from 1 to P, of the given pattern in document 01's order; 0 with a stack, a table or a refusal.
     pub tried: usize,
     /// The plane, from 0, of a stack's 11; otherwise 0.
     pub plane: usize,
@@ -56,7 +56,7 @@ pub struct Value {
 #[derive(Clone, Copy, Debug, PartialEq, Eq)]
 pub struct Decoded {
     pub count: usize,
-    /// Error patterns tried, up to the given one; 0 for a stack and for a row entry.
+    /// Error patterns tried, up to the given one; 0 for a stack, for a row entry and where a table was read.
     pub tried: usize,
 }
 
@@ -111,6 +111,7 @@ mod boundary {
         pub fn levels_test(body: In, body_len: usize) -> usize;
         pub fn levels_encode(body: In, body_len: usize, message: In, message_len: usize, out: Out, out_len: usize) -> usize;
         pub fn levels_decode(body: In, body_len: usize, word: In, word_len: usize, out: Out, out_len: usize) -> Reading;
+        pub fn levels_decode_golay(q: usize, word: In, word_len: usize, out: Out, out_len: usize) -> Reading;
         pub fn levels_recover(body: In, body_len: usize, word: In, word_len: usize, out: Out, out_len: usize) -> usize;
         pub fn levels_test_stack(body: In, body_len: usize) -> usize;
         pub fn levels_encode_stack(body: In, body_len: usize, message: In, message_len: usize, out: Out, out_len: usize) -> usize;
@@ -176,6 +177,12 @@ pub fn encode(body: &[u8], message: &[u8], out: &mut [u8]) -> Result<(), usize> 
 /// Decode a received word (read a row): `out` has n cells. It does not test the code.
 pub fn decode(body: &[u8], word: &[u8], out: &mut [u8]) -> Reading {
     unsafe { boundary::levels_decode(input(body), body.len(), input(word), word.len(), output(out), out.len()) }
+}
+
+/// Decode a received word of the binary Golay code of 23 cells by a table, without a description: q is even, 2 to 64, and `out` has
+/// 23 cells. It answers as `decode` does with that code's description, but for `tried`, which is 0.
+pub fn decode_golay(q: usize, word: &[u8], out: &mut [u8]) -> Reading {
+    unsafe { boundary::levels_decode_golay(q, input(word), word.len(), output(out), out.len()) }
 }
 
 /// Recover the message of a codeword: `out` has n symbols.

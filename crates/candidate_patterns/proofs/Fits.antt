@@ -19,7 +19,7 @@ use Rattle.definitions.specs.Codes.{Code, data_cells}
 use Rattle.definitions.specs.Codewords.{syndrome_entry, syndrome, ceiling, is_codeword}
 use Rattle.definitions.specs.Decoding.{fits, same_syndrome}
 use Rattle.definitions.proofs.Tests.{and_left, and_right, and_both, eq_test, same_eq, below_each, each_below, above-each, each-above}
-use Rattle.word_laws.proofs.Cells.{at-past, at-map2, length-map2, each_at, at_each, up_from_bounds, up_from_mem, same_map, map-zero}
+use Rattle.word_laws.proofs.Cells.{at-past, at-map2, length-map2, each_at, at_each, pair_at, at_pair, up_from_bounds, up_from_mem, same_map, map-zero}
 use Rattle.word_laws.proofs.Remainders.{cancel}
 use Rattle.candidate_patterns.specs.declared.Risen.{Risen}
 use Rattle.candidate_patterns.specs.Candidates.{magnitude_at, word_of, no_rise, rise_at}
@@ -40,20 +40,6 @@ same_each p y e s i h = same_map (syndrome_entry p e) (syndrome_entry p y) (up_f
   where
     q : map (syndrome_entry p e) (up_from 0 p.r) ≡ map (syndrome_entry p y) (up_from 0 p.r)
     q = same_eq (map (syndrome_entry p e) (up_from 0 p.r)) (map (syndrome_entry p y) (up_from 0 p.r)) (subst T (sym s) tt)
-
-module _ (R : ℕ → ℕ → Type 0) where
-  pair_at_lem : (x y : List ℕ) → EachPair R x y → (j : ℕ) → j < length x → R (at x j) (at y j)
-  pair_at_lem [] [] h j g = absurd (omega arith)
-  pair_at_lem [] (b ∷ y) h j g = absurd h
-  pair_at_lem (a ∷ x) [] h j g = absurd h
-  pair_at_lem (a ∷ x) (b ∷ y) h zero g = h.0
-  pair_at_lem (a ∷ x) (b ∷ y) h (suc j) g = pair_at_lem x y h.1 j (omega arith)
-
-  at_pair : (x y : List ℕ) → length x ≡ length y → ((j : ℕ) → j < length x → R (at x j) (at y j)) → EachPair R x y
-  at_pair [] [] l h = tt
-  at_pair [] (b ∷ y) l h = absurd (omega arith)
-  at_pair (a ∷ x) [] l h = absurd (omega arith)
-  at_pair (a ∷ x) (b ∷ y) l h = (h 0 (omega arith), at_pair x y (omega arith) (λ j g. h (suc j) (omega arith)))
 
 -- a cell is not above the word, and a check cell is left below the ceiling
 abbrev pub CellFits : Code → List ℕ → List ℕ → ℕ → Type 0
@@ -78,7 +64,7 @@ module _ (p : Code) (y e : List ℕ) (ly : length y ≡ p.n) (le : length e ≡ 
 
   pub fits_each : fits p y e ≡ true → (i : ℕ) → i < p.n → CellFits p y e i
   unfolding fits is_codeword s
-  fits_each f i h = (pair_at_lem (λ a b. b ≤ a) y e (above-each e y above) i (omega arith), λ b. rw (sym (check_at i b h)) (check b))
+  fits_each f i h = (pair_at (λ a b. b ≤ a) y e (above-each e y above) i (omega arith), λ b. rw (sym (check_at i b h)) (check b))
     where
       all : T (same_syndrome p y e && nowhere_above e y && is_codeword p s)
       all = subst T (sym f) tt

@@ -22,6 +22,10 @@ pub mod Tried
 pub mod Packing
 -- messages and their numbers: one is got back from the other
 pub mod MessageNumbers
+-- a code of which P patterns with different syndromes are known is accepted
+pub mod Counting
+-- where M divides q, an accepted code's one pattern with the word's syndrome decides
+pub mod SyndromeDecoding
 -- circular reading and ours: for an accepted code they agree wherever a codeword is within reach, and where they differ ours is 11
 pub mod Circular
 -- where M divides q: the ceiling asks nothing, and the codes are those of documents 000 and 003

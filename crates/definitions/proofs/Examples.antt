@@ -14,6 +14,7 @@ use Rattle.definitions.specs.Acceptance.{accepted}
 use Rattle.definitions.specs.Decoding.{same_syndrome, fits, decode}
 use Rattle.definitions.specs.Messages.{symbols_fit, check_level, encode, message}
 use Rattle.definitions.specs.CodeOperations.{in_range, open_code, test_code, encode_code, decode_code, recover_code}
+use Rattle.definitions.specs.Golay.{golay_matrix, decode_golay}
 use Rattle.definitions.specs.Tried.{tried, tried_code}
 use Rattle.definitions.specs.Packing.{packable, bit_count, byte_count, pack, unpack, leftover_set}
 use Rattle.definitions.specs.PackingOperations.{open_packable, pack_code, unpack_code}
@@ -26,13 +27,14 @@ use Rattle.definitions.specs.StackOperations.{open_plane, open_planes, open_stac
 use Rattle.definitions.specs.Images.{contents_right, check_image, RowRecord, decode_row, read_row}
 use Rattle.definitions.specs.CartridgeLists.{lines_of}
 use Rattle.definitions.specs.Circular.{decode_circular}
-use Rattle.definitions.specs.Examples.{Example, opens, tests, tests_stack, encodes, decodes, decodes_stack, tries, numbers, circular, patterns}
+use Rattle.definitions.specs.Examples.{Example, opens, tests, tests_stack, encodes, decodes, decodes_stack, decodes_golay, tries, numbers, circular, patterns}
 use Rattle.definitions.specs.Examples.{checks, reads_row, lists, writes, passes, Holds, AllHold, lent, R, F, S, H, K, G, table}
 use Rattle.definitions.specs.PowersOfTwo.{log2, is_power_of_two}
 use Rattle.definitions.specs.Labels.{gray, reversed, made_table, is_permutation}
 use Rattle.definitions.specs.LabelOperations.{make_labels, applicable, to_levels, to_states}
 use Rattle.definitions.specs.LabelExamples.{labels, three}
 use Rattle.definitions.specs.FurtherExamples.{Z, transponder, document_image, stack_image, further}
+use Rattle.definitions.specs.GolayExamples.{golay_words}
 use Rattle.definitions.proofs.Tests.{and_left, and_right, same_eq}
 
 -- equality of answers as a test, given one of what they give; and what it shows
@@ -110,6 +112,7 @@ holds (tests_stack b a) = same_answer any_unit (test_stack b) a
 holds (encodes b s r) = same_result any_unit (encode_code b s (lent (length s))) r
 holds (decodes b y r) = same_result eqb (decode_code b y (lent (length y))) r
 holds (decodes_stack b y r) = same_result eqb (decode_stack b y (lent (length y))) r
+holds (decodes_golay q y r) = same_result eqb (decode_golay q y (lent (length y))) r
 holds (tries b y a) = same_answer eqb (tried_code b y (lent (length y))) a
 holds (numbers b s a) = same_answer eqb (number_of_message b s) a
 holds (circular b y a) = same_answer same_pair (decode_circular (code_of b) y) a
@@ -127,6 +130,7 @@ shown (tests_stack b a) h = answers_eq any_unit units_eq (test_stack b) a h
 shown (encodes b s r) h = results_eq any_unit units_eq (encode_code b s (lent (length s))) r h
 shown (decodes b y r) h = results_eq eqb eqb→eq (decode_code b y (lent (length y))) r h
 shown (decodes_stack b y r) h = results_eq eqb eqb→eq (decode_stack b y (lent (length y))) r h
+shown (decodes_golay q y r) h = results_eq eqb eqb→eq (decode_golay q y (lent (length y))) r h
 shown (tries b y a) h = answers_eq eqb eqb→eq (tried_code b y (lent (length y))) a h
 shown (numbers b s a) h = answers_eq eqb eqb→eq (number_of_message b s) a h
 shown (circular b y a) h = answers_eq same_pair pairs_eq (decode_circular (code_of b) y) a h
@@ -170,6 +174,12 @@ unfolding
     labels three log2 is_power_of_two gray reversed made_table is_permutation make_labels applicable to_levels to_states
 labels_computed = tt
 
+golay_computed : T (all_hold golay_words)
+unfolding
+    golay_words golay_matrix decode_golay
+    syndrome_entry syndrome is_codeword patterns_of same_syndrome fits decode
+golay_computed = tt
+
 pub examples : AllHold table
 examples = all_shown table computed
 
@@ -178,3 +188,6 @@ further_examples = all_shown further further_computed
 
 pub label_examples : AllHold labels
 label_examples = all_shown labels labels_computed
+
+pub golay_examples : AllHold golay_words
+golay_examples = all_shown golay_words golay_computed

@@ -4,5 +4,7 @@ pub mod Tests
 pub mod Beginning
 -- document 01's examples hold, and further ones: one test that is computed over a table, and one law that turns it into the equations
 pub mod Examples
+-- the description of the 23-cell Golay code, written out
+pub mod GolayDescription
 -- within reach, at document 01's examples
 pub mod ReachExamples

@@ -5,6 +5,7 @@ use Rattle.definitions.specs.Codes.{code_of}
 use Rattle.definitions.specs.Patterns.{patterns_of}
 use Rattle.definitions.specs.CodeOperations.{open_code, test_code, encode_code, decode_code}
 use Rattle.definitions.specs.Tried.{tried_code}
+use Rattle.definitions.specs.Golay.{decode_golay}
 use Rattle.definitions.specs.MessageNumberOperations.{number_of_message}
 use Rattle.definitions.specs.StackOperations.{test_stack, decode_stack}
 use Rattle.definitions.specs.Images.{check_image, RowRecord, read_row}
@@ -17,6 +18,7 @@ pub data Example : Type 0 where
   tests tests_stack : List ℕ → Answer (Unit {0}) → Example
   encodes : List ℕ → List ℕ → Result (Unit {0}) → Example
   decodes decodes_stack : List ℕ → List ℕ → Result ℕ → Example
+  decodes_golay : ℕ → List ℕ → Result ℕ → Example
   tries : List ℕ → List ℕ → Answer ℕ → Example
   numbers : List ℕ → List ℕ → Answer ℕ → Example
   circular : List ℕ → List ℕ → Answer (ℕ × List ℕ) → Example
@@ -40,6 +42,7 @@ Holds (tests_stack b a) = test_stack b ≡ a
 Holds (encodes b s r) = encode_code b s (lent (length s)) ≡ r
 Holds (decodes b y r) = decode_code b y (lent (length y)) ≡ r
 Holds (decodes_stack b y r) = decode_stack b y (lent (length y)) ≡ r
+Holds (decodes_golay q y r) = decode_golay q y (lent (length y)) ≡ r
 Holds (tries b y a) = tried_code b y (lent (length y)) ≡ a
 Holds (numbers b s a) = number_of_message b s ≡ a
 Holds (circular b y a) = decode_circular (code_of b) y ≡ a

@@ -50,6 +50,8 @@ pub mod Images
 pub mod CartridgeLists
 -- circular reading, as the customer describes its old program: the first pattern with the word's syndrome, lowered modulo q
 pub mod Circular
+-- the binary Golay code of 23 cells; the rule of a table of its patterns, one to each syndrome; and decoding without a description
+pub mod Golay
 -- the customer's demands, as predicates of an operation's answer and of what its output buffer holds when the call returns
 pub mod Demands
 -- examples a to l of document 01, as a table
@@ -58,5 +60,7 @@ pub mod Examples
 pub mod FurtherExamples
 -- a table of examples of labels, under the law of document 01's
 pub mod LabelExamples
+-- a table of examples of decoding the Golay code without a description, under the law of document 01's
+pub mod GolayExamples
 -- sizes that a caller needs before a call, since 8 asks for exact lengths: an addition to document 01's operations
 pub mod Sizes

@@ -2,18 +2,21 @@
 use mathlib.Core.Path.{◌≡◌, refl, sym, ap, ap₂, ◌∙◌}
 use mathlib.Core.Bool.{Bool, true, false, cond}
 use mathlib.Core.List.{List, ◌++◌}
+use mathlib.Core.Logic.{◌⊎◌, inl, inr}
 use Prim.Native.Nat.{ℕ, zero, suc, ◌+◌, ◌*◌, ◌-◌, ◌%◌, ◌≤◌, ◌<◌}
-use native.Mathlib.Nat.{zero-mul, mod-eq_of_lt, mul-le-mul_right}
+use native.Mathlib.Nat.{add-zero, add-suc, zero-mul, mod-eq_of_lt, mul-le-mul_right}
 use native.Mathlib.Decide.{dec_lt}
 use native.Mathlib.Omega.{arith}
 use lib.Dec.{eqb, ltb}
 use lib.ListN.{length, drop, replicate}
 use Rattle.std.proofs.lemmas.List.{get_or_append_left, get_or-append_right, get_or-drop}
+use Rattle.std.proofs.lemmas.Bool.{cases_eq}
+use Rattle.std.proofs.lemmas.Bool.Decides.{nat_tests}
 use borrow.Author.Tests.{lt-ltb, le-ltb, eq-eqb, ne_eqb}
 use Rattle.definitions.specs.Words.{at, sum_to, EachCell}
 use Rattle.definitions.specs.Codes.{Code, data_cells}
 use Rattle.definitions.specs.Codewords.{syndrome_entry}
-use Rattle.word_laws.proofs.Cells.{at-past, each_at}
+use Rattle.word_laws.proofs.Cells.{at-past, each_at, sum_same}
 use Rattle.syndrome.specs.Columns.{column}
 
 pub sum-zero : (w : ℕ) (f : ℕ → ℕ) → ((j : ℕ) → j < w → f j ≡ 0) → sum_to w f ≡ 0
@@ -96,3 +99,36 @@ module _ (p : Code) (i c : ℕ) where
   pub column-other : data_cells p ≤ c → (c ≡ data_cells p + i → ⊥) → 0 ≡ column p i c
   unfolding column
   column-other h e = simp (le-ltb c (data_cells p) h, ne_eqb c (data_cells p + i) e)
+
+-- an entry of the syndrome, over all cells alike
+module _ (p : Code) (y : List ℕ) (i : ℕ) where
+  abbrev by_column : ℕ → ℕ
+  by_column c = column p i c * at y c
+
+  -- of the first m check cells the sum takes the one of its row
+  check_cells : (m : ℕ) → sum_to (data_cells p + m) by_column ≡ sum_to (data_cells p) by_column + cond (ltb i m) (at y (data_cells p + i)) 0
+  check_cells zero = rw (le-ltb i 0 (omega arith), add-zero (data_cells p)) (omega arith)
+  check_cells (suc m) = rw (add-suc w m, check_cells m) (step (cases_eq i m))
+    where
+      w : ℕ
+      w = data_cells p
+
+      step : (i ≡ m) ⊎ (i ≡ m → ⊥)
+          → sum_to w by_column + cond (ltb i m) (at y (w + i)) 0 + by_column (w + m) ≡ sum_to w by_column + cond (ltb i (suc m)) (at y (w + i)) 0
+      step (inl e) =
+          rw (le-ltb i m (omega arith), lt-ltb i (suc m) (omega arith), sym (column_unit p i (w + m) (omega arith) (omega arith)), e) (omega arith)
+      step (inr d) =
+          rw (ltb-suc, sym (column-other p i (w + m) (omega arith) (λ e. d (omega arith)))) (omega arith)
+        where
+          ltb-suc : ltb i (suc m) ≡ ltb i m
+          ltb-suc = grind (arith, nat_tests)
+
+  pub entry_by_columns : i < p.r → p.r ≤ p.n → syndrome_entry p y i ≡ sum_to p.n by_column % p.M
+  unfolding syndrome_entry
+  entry_by_columns h g =
+      let all : data_cells p + p.r ≡ p.n = omega arith in
+      ap (λ (s : ℕ). s % p.M)
+      (ap₂ ◌+◌
+      (sum_same (data_cells p) (λ j. at p.A (i * data_cells p + j) * at y j) by_column (λ j l. ap (λ (a : ℕ). a * at y j) (column_data p i j l)))
+      (sym (ap (λ (b : Bool). cond b (at y (data_cells p + i)) 0) (lt-ltb i p.r h)))
+      ∙ sym (check_cells p.r) ∙ ap (λ (n : ℕ). sum_to n by_column) all)

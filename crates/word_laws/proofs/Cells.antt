@@ -10,7 +10,7 @@ use native.Mathlib.Omega.{arith}
 use lib.Dec.{T, eqb, eqb→eq}
 use lib.ListN.{length, set, replicate, take, drop, get_or-eq_default}
 use borrow.Author.Tests.{eqb-false}
-use Rattle.definitions.specs.Words.{at, sum_to, up_from, map2, all_zero, EachCell}
+use Rattle.definitions.specs.Words.{at, sum_to, up_from, map2, all_zero, EachCell, EachPair}
 use Rattle.definitions.proofs.Tests.{and_left, and_right, and_both, eq_test}
 
 pub at-past : (x : List ℕ) (j : ℕ) → length x ≤ j → at x j ≡ 0
@@ -70,6 +70,21 @@ module _ (P : ℕ → Type 0) where
 pub each_map : {P Q : ℕ → Type 0} → ((v : ℕ) → P v → Q v) → (x : List ℕ) → EachCell P x → EachCell Q x
 each_map f [] h = tt
 each_map f (v ∷ x) h = (f v h.0, each_map f x h.1)
+
+-- two words cell by cell
+module _ (R : ℕ → ℕ → Type 0) where
+  pub pair_at : (x y : List ℕ) → EachPair R x y → (j : ℕ) → j < length x → R (at x j) (at y j)
+  pair_at [] [] h j g = absurd (omega arith)
+  pair_at [] (b ∷ y) h j g = absurd h
+  pair_at (a ∷ x) [] h j g = absurd h
+  pair_at (a ∷ x) (b ∷ y) h zero g = h.0
+  pair_at (a ∷ x) (b ∷ y) h (suc j) g = pair_at x y h.1 j (omega arith)
+
+  pub at_pair : (x y : List ℕ) → length x ≡ length y → ((j : ℕ) → j < length x → R (at x j) (at y j)) → EachPair R x y
+  at_pair [] [] l h = tt
+  at_pair [] (b ∷ y) l h = absurd (omega arith)
+  at_pair (a ∷ x) [] l h = absurd (omega arith)
+  at_pair (a ∷ x) (b ∷ y) l h = (h 0 (omega arith), at_pair x y (omega arith) (λ j g. h (suc j) (omega arith)))
 
 pub sum_same : (w : ℕ) (f g : ℕ → ℕ) → ((j : ℕ) → j < w → f j ≡ g j) → sum_to w f ≡ sum_to w g
 sum_same zero f g h = refl

@@ -2,7 +2,7 @@
 pub mod Cells
 -- sums modulo M
 pub mod Remainders
--- the first entry that passes a test; lists whose entries are all different
+-- the first entry that passes a test, and tests of all entries; lists whose entries are all different
 pub mod Lists
 -- the list of patterns: exact, once, in document 01's order, P long
 pub mod PatternList

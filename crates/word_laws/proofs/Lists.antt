@@ -5,9 +5,16 @@ use mathlib.Core.Logic.{◌⊎◌, inl, inr}
 use mathlib.Core.List.Memᴰ
 use mathlib.Core.List.{List, [], ◌∷◌, map, Memᴰ}
 use mathlib.Core.Option.{none, some, none-ne-some, some-ne-none}
-use Prim.Native.Nat.{ℕ}
+use Prim.Native.Nat.{ℕ, ◌<◌}
+use native.Mathlib.Nat.{zero-add}
+use native.Mathlib.Omega.{arith}
 use lib.Dec.{T, T_not, not_T}
-use Rattle.definitions.specs.Words.{same_word}
+use lib.ListN.{length}
+use Rattle.std.specs.List.{list_all, enumerate_from}
+use Rattle.std.proofs.lemmas.List.Elements.{All-get_or}
+use Rattle.std.proofs.lemmas.List.FromFn.{length-enumerate_from, get_or-enumerate_from}
+use Rattle.std.proofs.lemmas.List.Sums.{AllPass-from_list_all}
+use Rattle.definitions.specs.Words.{at, same_word}
 use Rattle.definitions.specs.Decoding.{first, pick_first}
 use Rattle.definitions.specs.Acceptance.{among, all_different}
 use Rattle.definitions.specs.Tried.{Once}
@@ -33,7 +40,8 @@ module _ {A : Type 0} (f : A → Bool) where
       step false p q (inl s) ih = subst T (ap f s ∙ p) h
       step false p q (inr k) ih = ih q k
 
-among_mem : (s : List ℕ) (xs : List (List ℕ)) → Memᴰ s xs → T (among s xs)
+-- whether a word is in a list, as a test
+pub among_mem : (s : List ℕ) (xs : List (List ℕ)) → Memᴰ s xs → T (among s xs)
 among_mem s [] m = absurd (Memᴰ.not-nil m)
 among_mem s (x ∷ xs) m = step (same_word s x) refl (Memᴰ.cases_cons m) (λ (k : Memᴰ s xs). among_mem s xs k)
   where
@@ -42,7 +50,7 @@ among_mem s (x ∷ xs) m = step (same_word s x) refl (Memᴰ.cases_cons m) (λ (
     step false p (inl e) ih = absurd (subst T (ap (same_word s) e ∙ p) (same_refl s))
     step false p (inr k) ih = ih k
 
-mem_among : (s : List ℕ) (xs : List (List ℕ)) → T (among s xs) → Memᴰ s xs
+pub mem_among : (s : List ℕ) (xs : List (List ℕ)) → T (among s xs) → Memᴰ s xs
 mem_among s [] h = absurd h
 mem_among s (x ∷ xs) h = step (same_word s x) refl h (λ (k : T (among s xs)). mem_among s xs k)
   where
@@ -88,3 +96,12 @@ module _ (f : List ℕ → List ℕ) where
       twice k =
           let (a, m, p) = mem_map xs (mem_among (f x) (map f xs) k) in
           u.0 (Memᴰ.cast (h x a (Memᴰ.head refl) (Memᴰ.tail m) p) m)
+
+-- what a test of all entries with their places says of each
+pub entry_passes :
+    (test : ℕ × ℕ → Bool) (xs : List ℕ) → list_all test (enumerate_from 0 xs) ≡ true → (i : ℕ) → i < length xs → test (i, at xs i) ≡ true
+entry_passes test xs h i l =
+    let places = enumerate_from 0 xs in
+    let long : i < length places = omega (arith, length-enumerate_from 0 xs) in
+    subst (λ (k : ℕ × ℕ). test k ≡ true) (get_or-enumerate_from 0 xs i (0, 0) l ∙ ap (λ (k : ℕ). (k, at xs i)) (zero-add i))
+    (All-get_or (λ k. test k ≡ true) places i (0, 0) long (AllPass-from_list_all test places h))
