@@ -14,7 +14,7 @@ use borrow.Author.Tests.{ltb-true, ltb-false, le-ltb, eqb-true}
 use Rattle.std.specs.Bool.{MatchBool}
 use Rattle.std.specs.List.{range_with_len, AllWithin, HoldsAt}
 use Rattle.std.proofs.lemmas.List.FromFn.{length-range_with_len, get_or-range_with_len}
-use Rattle.definitions.specs.Words.{at, up_from, subtract, nowhere_above, all_below, all_zero, EachCell, EachPair}
+use Rattle.definitions.specs.Words.{at, up_from, subtract, nowhere_above, all_below, all_zero, EachCell}
 use Rattle.definitions.specs.Codes.{Code, data_cells}
 use Rattle.definitions.specs.Codewords.{syndrome_entry, syndrome, ceiling, is_codeword}
 use Rattle.definitions.specs.Decoding.{fits, same_syndrome}

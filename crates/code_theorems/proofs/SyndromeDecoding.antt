@@ -11,7 +11,6 @@ use Rattle.definitions.specs.Codewords.{syndrome, syndrome_entry}
 use Rattle.definitions.specs.Patterns.{Pattern}
 use Rattle.definitions.specs.Acceptance.{Accepted}
 use Rattle.definitions.specs.Decoding.{decode}
-use Rattle.definitions.specs.Reach.{Reach}
 use Rattle.definitions.specs.Demands.{of_code, WithinReach}
 use Rattle.word_laws.proofs.Cells.{each_at, at_each, length-map2}
 use Rattle.word_laws.proofs.Remainders.{cancel}

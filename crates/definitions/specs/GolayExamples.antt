@@ -1,6 +1,6 @@
 -- A table of examples of decoding without a description, of the 23-cell Golay code, under the law of the first. The definition searches its
 -- 2,048 patterns; no table of patterns is at hand here.
-use Rattle.std.specs.Prelude.{List, [], ◌∷◌, ◌++◌, ℕ}
+use Rattle.std.specs.Prelude.{List, [], ◌∷◌, ◌++◌}
 use Rattle.definitions.specs.Examples.{Example, decodes_golay, zeros, back, declined}
 
 unfoldable pub golay_words : List Example

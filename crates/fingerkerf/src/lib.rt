@@ -19,7 +19,7 @@ ghost use Rattle.definitions.specs.Sizes.{code_cells, stack_cells, stack_symbols
 ghost use Rattle.definitions.specs.Demands.{of_code, of_stack, Tested, OneCodeword, Recovered, DistanceDecides, SomeCodeword};
 ghost use Rattle.definitions.specs.Demands.{GivenWithinReach, KeepsMessages};
 ghost use Rattle.definitions.specs.Golay.{golay_code, golay_body, decode_golay};
-ghost use Rattle.golay.specs.Clauses.{WhereEven, WhereEvenReads};
+ghost use Rattle.golay.specs.Clauses.{WhereGolay, WhereGolayReads};
 ghost use Rattle.codec.specs.CodeClauses.{WhereCodeOpens, WhereWritable, WhereCodeword, WhereCodeReads, WhereCodeAccepted};
 ghost use Rattle.codec.specs.StackClauses.{WhereStackOpens, WhereStackReads, WhereStackAccepted};
 ghost use Rattle.row_reading.specs.RowClauses.{WherePlanRow, WhereStackRow, RecordDecides};
@@ -65,16 +65,17 @@ pub fn levels_decode(body: &[u8], word: &[u8], out: &mut [u8]) -> Reading
     Reading::from(codec::decode(body, word, out))
 }
 
-// Read a row of the 23-cell Golay code of q levels by the table of its patterns: no body, and no patterns tried.
+// Read a word of the 23-cell Golay code of q levels by the table of its patterns: no description is taken, and none is tried.
 pub fn levels_decode_golay(q: usize, word: &[u8], out: &mut [u8]) -> Reading
     ensures numbers { ReadNumbered (decode_golay q word.now out.old).answer result }
     ensures buffer { out.new ≡ (decode_golay q word.now out.old).out }
     ensures tried { result.tried ≡ 0 }
-    ensures as_by_search { WhereEven q
-        (ReadNumbered (decode_code (golay_body q) word.now out.old).answer result × (out.new ≡ (decode_code (golay_body q) word.now out.old).out)) }
-    ensures distance_decides { WhereEvenReads q word.now out.old
+    ensures as_by_search { WhereGolay q
+        (ReadNumbered (decode_code (golay_body q) word.now out.old).answer result
+        × (out.new ≡ (decode_code (golay_body q) word.now out.old).out)) }
+    ensures distance_decides { WhereGolayReads q word.now out.old
         (DistanceDecides (of_code (golay_code q)) word.now (count_by result.number result.count) out.new) }
-    ensures keeps_messages { WhereEvenReads q word.now out.old
+    ensures keeps_messages { WhereGolayReads q word.now out.old
         (KeepsMessages (of_code (golay_code q)) word.now (count_by result.number result.count) out.new) }
 {
     Reading::from(golay::decode(q, word, out))

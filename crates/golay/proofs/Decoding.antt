@@ -1,7 +1,7 @@
 -- The pattern of the table's entry at the index of a word's syndrome: what is given, or refused, by it is what decoding answers.
-use Rattle.std.proofs.Common.{◌≡◌, ℕ, ◌*◌, ◌/◌, ◌%◌, ◌<◌, Bool, true, false, not, List, length, sym, ap, ◌∙◌, subst, arith}
+use Rattle.std.proofs.Common.{◌≡◌, ℕ, ◌*◌, ◌/◌, ◌%◌, ◌<◌, Bool, true, false, not, List, length, sym, ap, ◌∙◌, arith}
 use lib.Dec.{T}
-use Rattle.definitions.specs.Words.{weight, subtract, nowhere_above, EachCell, EachPair}
+use Rattle.definitions.specs.Words.{weight, subtract, nowhere_above, EachCell}
 use Rattle.definitions.specs.Answers.{given, refused, result as left_by}
 use Rattle.definitions.specs.Codewords.{syndrome}
 use Rattle.definitions.specs.Decoding.{decode}

@@ -1,4 +1,4 @@
--- Walks over the risen cells of a pattern, from its lowest bit upward.
+-- Walks over the risen cells of a pattern, from the last to the first.
 use Rattle.std.proofs.Common.{◌≡◌, ◌≢◌, ℕ, ◌+◌, ◌*◌, ◌-◌, ◌%◌, ◌^◌, ◌<◌, ◌≤◌, true, false, List, length, set, refl, sym, ap, ◌∙◌}
 use Rattle.std.proofs.Common.{subst, inl, inr, arith, w32, get_or-set_same, get_or-set_other}
 use lib.Dec.{T}
@@ -10,126 +10,136 @@ use Rattle.std.specs.Int.Bits.{bit_and}
 use Rattle.std.proofs.Math.ListN.{length-set}
 use Rattle.std.proofs.lemmas.Bool.{cases_eq, cases_lt, false_from_ne_true}
 use Rattle.std.proofs.lemmas.Nat.{and_comm, and-not}
-use Rattle.std.proofs.lemmas.Nat.Bits.{and_pow, bit_at-zero, bit_at-lt, bit_at_above, bit_at-trailing_zeros, bit_at_clear_same, bit_at_clear_other}
+use Rattle.std.proofs.lemmas.Nat.Bits.{and_pow, bit_at-zero, bit_at_above, bit_at-trailing_zeros, bit_at_clear_same, bit_at_clear_other}
 use Rattle.definitions.specs.Words.{at, subtract, nowhere_above}
 use Rattle.definitions.specs.Golay.{word_of_bits}
 use Rattle.definitions.proofs.Tests.{above-each, each-above}
-use Rattle.word_laws.proofs.Cells.{at-map2, length-map2, pair_at, at_pair}
+use Rattle.word_laws.proofs.Cells.{at-map2, length-map2, pair_at, at_pair, each_at}
 use Rattle.code_theorems.proofs.Refusals.{is_true}
-use Rattle.golay_table.proofs.BitWords.{length-word_of_bits, at-word_of_bits}
-use Rattle.golay.specs.Clauses.{WithoutBit}
+use Rattle.golay_table.proofs.BitWords.{length-word_of_bits, at-word_of_bits, each_bit}
+use Rattle.golay.specs.RisenCells.{WithoutCell}
 
-pub lowest_bit : (n : ℕ) → 0 < n → n < 2 ^ 23 → trailing_zeros w32 n < 23
+pub lowest_bit : (n : ℕ) → 0 < n → n < 2 ^ 23 → trailing_zeros w32 n ≤ 22
 lowest_bit n pos small =
     let (a, b, c) = bit_at-trailing_zeros w32 n pos (omega arith) in
-    elim (cases_lt (trailing_zeros w32 n) 23) as (λ _. trailing_zeros w32 n < 23)
-    [ inl l ↦ l | inr g ↦ let z = bit_at_above n 23 (trailing_zeros w32 n) small g in absurd (omega arith) ]
+    elim (cases_lt (trailing_zeros w32 n) 23) as (λ _. trailing_zeros w32 n ≤ 22)
+    [ inl l ↦ omega arith | inr g ↦ let z = bit_at_above n 23 (trailing_zeros w32 n) small g in absurd (omega arith) ]
 
-pub lowest_taken : (n : ℕ) → 0 < n → n < 2 ^ 23
-    → WithoutBit n (trailing_zeros w32 n) (bit_and n (bit_not w32 (1 * 2 ^ trailing_zeros w32 n % 2 ^ 32)))
-lowest_taken n pos small =
-    let k = trailing_zeros w32 n in
-    let (a, b, c) = bit_at-trailing_zeros w32 n pos (omega arith) in
-    record {
-      in_word = lowest_bit n pos small;
-      set = b;
-      gone = bit_at_clear_same w32 n k a;
-      others = λ i l e. bit_at_clear_other w32 n k a i (let m : i < 32 = omega arith in m) e;
-      fewer =
-          let f : 2 ^ k < 2 ^ 32 = pow-lt a in
-          let p : 1 * 2 ^ k % 2 ^ 32 ≡ 2 ^ k = ap (λ (z : ℕ). z % 2 ^ 32) (one-mul (2 ^ k)) ∙ mod-eq_of_lt f in
-          let z : bit_and (2 ^ k) n ≡ 2 ^ k = and_comm (2 ^ k) n ∙ and_pow n k ∙ ap (λ d. d * 2 ^ k) b ∙ one-mul (2 ^ k) in
-          rw (p, and_comm n (2 ^ 32 - 1 - 2 ^ k)) (omega (arith, and-not 32 (2 ^ k) n f (omega arith), z, pow_pos k));
-    }
+-- the lowest bit is cleared
+module _ (n : ℕ) (pos : 0 < n) (small : n < 2 ^ 23) where
+  abbrev pub k : ℕ
+  k = trailing_zeros w32 n
 
--- a pattern of bits is nowhere above the word, bit by bit
-module _ (y : List ℕ) (x : ℕ) (ly : length y ≡ 23) where
-  bits_under : ((i : ℕ) → i < 23 → bit_at x i ≤ at y (22 - i)) → nowhere_above (word_of_bits x) y ≡ true
-  bits_under h =
-      is_true _ (each-above (word_of_bits x) y (at_pair (λ a b. b ≤ a) y (word_of_bits x) (ly ∙ sym (length-word_of_bits x)) λ j g.
-      let i : 22 - (22 - j) ≡ j = omega arith in
-      let b = h (22 - j) (omega arith) in
-      rw (at-word_of_bits x j (omega arith)) (rw i at b)))
+  abbrev pub left : ℕ
+  left = bit_and n (bit_not w32 (1 * 2 ^ k % 2 ^ 32))
 
-  under_bits : nowhere_above (word_of_bits x) y ≡ true → (i : ℕ) → i < 23 → bit_at x i ≤ at y (22 - i)
-  under_bits t i h =
-      let each = above-each (word_of_bits x) y (subst T (sym t) tt) in
-      let c = pair_at (λ a b. b ≤ a) y (word_of_bits x) each (22 - i) (omega arith) in
-      let b : 22 - (22 - i) ≡ i = omega arith in
-      rw (at-word_of_bits x (22 - i) (omega arith), b) at c
+  fewer : left < n
+  fewer =
+      let (a, b, c) = bit_at-trailing_zeros w32 n pos (omega arith) in
+      let f : 2 ^ k < 2 ^ 32 = pow-lt a in
+      let p : 1 * 2 ^ k % 2 ^ 32 ≡ 2 ^ k = ap (λ (z : ℕ). z % 2 ^ 32) (one-mul (2 ^ k)) ∙ mod-eq_of_lt f in
+      let z : bit_and (2 ^ k) n ≡ 2 ^ k = and_comm (2 ^ k) n ∙ and_pow n k ∙ ap (λ d. d * 2 ^ k) b ∙ one-mul (2 ^ k) in
+      rw (p, and_comm n (2 ^ 32 - 1 - 2 ^ k)) (omega (arith, and-not 32 (2 ^ k) n f (omega arith), z, pow_pos k))
 
--- the bits of left are some of those of x, which are still to be seen
+  -- it is the bit of the last risen cell
+  cell_bit : (x : ℕ) → at (word_of_bits x) (22 - k) ≡ bit_at x k
+  cell_bit x = at-word_of_bits x (22 - k) (omega arith) ∙ ap (bit_at x) (omega (arith, lowest_bit n pos small))
+
+  pub last_taken : WithoutCell n (22 - k) left
+  last_taken =
+      let (a, b, c) = bit_at-trailing_zeros w32 n pos (omega arith) in
+      record {
+        in_word = omega arith;
+        risen = cell_bit n ∙ b;
+        gone = cell_bit left ∙ bit_at_clear_same w32 n k a;
+        others = λ j h e.
+            at-word_of_bits left j h
+            ∙ bit_at_clear_other w32 n k a (22 - j) (let m : 22 - j < 32 = omega arith in m) (λ s. e (omega arith))
+            ∙ sym (at-word_of_bits n j h);
+        fewer = fewer;
+      }
+
+at-no_bits : (j : ℕ) → j < 23 → at (word_of_bits 0) j ≡ 0
+at-no_bits j h = at-word_of_bits 0 j h ∙ bit_at-zero (22 - j)
+
+bit_le : (x j : ℕ) → j < 23 → at (word_of_bits x) j ≤ 1
+bit_le x j h = each_at (λ v. v ≤ 1) (word_of_bits x) (each_bit x) j (omega (arith, length-word_of_bits x))
+
+-- the risen cells of left are some of those of x, which are still to be seen
 pub record Left (x left : ℕ) : Type 0 where
   pub small : left < 2 ^ 23
-  pub within : (i : ℕ) → i < 23 → bit_at left i ≤ bit_at x i
+  pub within : (j : ℕ) → j < 23 → at (word_of_bits left) j ≤ at (word_of_bits x) j
 
 all_left : (x : ℕ) → x < 2 ^ 23 → Left x x
-all_left x h = record { small = h; within = λ i l. omega arith }
+all_left x h = record { small = h; within = λ j l. omega arith }
 
-one_less : (x l b r : ℕ) → Left x l → WithoutBit l b r → Left x r
-one_less x l b r h w = record {
+one_less : (x l c r : ℕ) → Left x l → WithoutCell l c r → Left x r
+one_less x l c r h w = record {
   small = omega (arith, h.small, w.fewer);
-  within = λ i g. elim (cases_eq i b) as (λ _. bit_at r i ≤ bit_at x i)
-      [ inl e ↦ rw (e, w.gone) (omega arith) | inr d ↦ rw (w.others i g d) (h.within i g) ];
+  within = λ j g. elim (cases_eq j c) as (λ _. at (word_of_bits r) j ≤ at (word_of_bits x) j)
+      [ inl e ↦ rw (e, w.gone) (omega arith) | inr d ↦ rw (w.others j g d) (h.within j g) ];
 }
 
--- of the bits seen none is of a cell that was read at 0
+-- of the risen cells seen none was read at 0
 pub record Under (y : List ℕ) (x left : ℕ) : Type 0 where
   pub rest : Left x left
-  pub seen : (i : ℕ) → i < 23 → bit_at x i ≤ bit_at left i + at y (22 - i)
+  pub seen : (j : ℕ) → j < 23 → at (word_of_bits x) j ≤ at (word_of_bits left) j + at y j
 
 pub all_unseen : (y : List ℕ) (x : ℕ) → x < 2 ^ 23 → Under y x x
-all_unseen y x h = record { rest = all_left x h; seen = λ i l. omega arith }
+all_unseen y x h = record { rest = all_left x h; seen = λ j l. omega arith }
 
-pub one_seen : (y : List ℕ) (x l b r : ℕ) → Under y x l → WithoutBit l b r → at y (22 - b) ≢ 0 → Under y x r
-one_seen y x l b r h w n = record {
-  rest = one_less x l b r h.rest w;
-  seen = λ i g. elim (cases_eq i b) as (λ _. bit_at x i ≤ bit_at r i + at y (22 - i))
-      [ inl e ↦ rw (e, w.gone) (omega (arith, bit_at-lt x b)) | inr d ↦ rw (w.others i g d) (h.seen i g) ];
+pub one_seen : (y : List ℕ) (x l c r : ℕ) → Under y x l → WithoutCell l c r → at y c ≢ 0 → Under y x r
+one_seen y x l c r h w n = record {
+  rest = one_less x l c r h.rest w;
+  seen = λ j g. elim (cases_eq j c) as (λ _. at (word_of_bits x) j ≤ at (word_of_bits r) j + at y j)
+      [ inl e ↦ rw (e, w.gone) (omega (arith, bit_le x c w.in_word)) | inr d ↦ rw (w.others j g d) (h.seen j g) ];
 }
 
 pub all_seen : (y : List ℕ) (x l : ℕ) → length y ≡ 23 → Under y x l → l ≡ 0 → nowhere_above (word_of_bits x) y ≡ true
-all_seen y x l ly h e = bits_under y x ly λ i g. let s = h.seen i g in omega (arith, bit_at-zero i, rw e at s)
+all_seen y x l ly h e =
+    is_true _ (each-above (word_of_bits x) y (at_pair (λ a b. b ≤ a) y (word_of_bits x) (ly ∙ sym (length-word_of_bits x)) λ j g.
+    let s = h.seen j (omega arith) in
+    omega (arith, at-no_bits j (omega arith), rw e at s)))
+
+under_at : (y : List ℕ) (x j : ℕ) → length y ≡ 23 → nowhere_above (word_of_bits x) y ≡ true → j < 23 → at (word_of_bits x) j ≤ at y j
+under_at y x j ly t h = pair_at (λ a b. b ≤ a) y (word_of_bits x) (above-each (word_of_bits x) y (subst T (sym t) tt)) j (omega arith)
 
 pub one_above :
-    (y : List ℕ) (x l b r : ℕ) → length y ≡ 23 → Under y x l → WithoutBit l b r → at y (22 - b) ≡ 0 → nowhere_above (word_of_bits x) y ≡ false
-one_above y x l b r ly h w z = false_from_ne_true _ λ t. omega (arith, under_bits y x ly t b w.in_word, h.rest.within b w.in_word, w.set)
+    (y : List ℕ) (x l c r : ℕ) → length y ≡ 23 → Under y x l → WithoutCell l c r → at y c ≡ 0 → nowhere_above (word_of_bits x) y ≡ false
+one_above y x l c r ly h w z = false_from_ne_true _ λ t. omega (arith, under_at y x c ly t w.in_word, h.rest.within c w.in_word, w.risen)
 
--- the cells of the bits seen are lowered
+-- the risen cells seen are lowered
 pub record Lowered (y : List ℕ) (x : ℕ) (out : List ℕ) (left : ℕ) : Type 0 where
   pub rest : Left x left
   pub room : length out ≡ 23
-  pub cells : (i : ℕ) → i < 23 → at out (22 - i) + bit_at x i ≡ at y (22 - i) + bit_at left i
+  pub cells : (j : ℕ) → j < 23 → at out j + at (word_of_bits x) j ≡ at y j + at (word_of_bits left) j
 
 pub none_lowered : (y : List ℕ) (x : ℕ) → length y ≡ 23 → x < 2 ^ 23 → Lowered y x y x
-none_lowered y x ly h = record { rest = all_left x h; room = ly; cells = λ i l. refl }
+none_lowered y x ly h = record { rest = all_left x h; room = ly; cells = λ j l. refl }
 
 pub can_lower :
-    (y : List ℕ) (x : ℕ) (out : List ℕ) (l b r : ℕ) → length y ≡ 23 → nowhere_above (word_of_bits x) y ≡ true → Lowered y x out l → WithoutBit l b r
-    → 1 ≤ at y (22 - b)
-can_lower y x out l b r ly t h w = omega (arith, under_bits y x ly t b w.in_word, h.rest.within b w.in_word, w.set)
+    (y : List ℕ) (x : ℕ) (out : List ℕ) (l c r : ℕ) → length y ≡ 23 → nowhere_above (word_of_bits x) y ≡ true → Lowered y x out l
+    → WithoutCell l c r → 1 ≤ at y c
+can_lower y x out l c r ly t h w = omega (arith, under_at y x c ly t w.in_word, h.rest.within c w.in_word, w.risen)
 
-pub one_lowered : (y : List ℕ) (x : ℕ) (out : List ℕ) (l b r : ℕ) → Lowered y x out l → WithoutBit l b r → 1 ≤ at y (22 - b)
-    → Lowered y x (set out (22 - b) (at y (22 - b) - 1)) r
-one_lowered y x out l b r h w n = record {
-  rest = one_less x l b r h.rest w;
+pub one_lowered : (y : List ℕ) (x : ℕ) (out : List ℕ) (l c r : ℕ) → Lowered y x out l → WithoutCell l c r → 1 ≤ at y c
+    → Lowered y x (set out c (at y c - 1)) r
+one_lowered y x out l c r h w n = record {
+  rest = one_less x l c r h.rest w;
   room = simp length-set h.room;
-  cells = λ i g. elim (cases_eq i b) as (λ _. at (set out (22 - b) (at y (22 - b) - 1)) (22 - i) + bit_at x i ≡ at y (22 - i) + bit_at r i) [
+  cells = λ j g. elim (cases_eq j c) as (λ _. at (set out c (at y c - 1)) j + at (word_of_bits x) j ≡ at y j + at (word_of_bits r) j) [
     | inl e ↦
-        let m : 22 - b < length out = omega (arith, h.room, w.in_word) in
-        rw (e, get_or-set_same, w.gone) (omega (arith, h.rest.within b w.in_word, w.set, bit_at-lt x b))
-    | inr d ↦
-        let n : 22 - i ≢ 22 - b = (λ e. d (omega (arith, w.in_word))) in
-        rw (get_or-set_other, w.others i g d) (h.cells i g)
+        let m : c < length out = omega (arith, h.room, w.in_word) in
+        rw (e, get_or-set_same, w.gone) (omega (arith, h.rest.within c w.in_word, w.risen, bit_le x c w.in_word))
+    | inr d ↦ rw (get_or-set_other, w.others j g d) (h.cells j g)
   ];
 }
 
 pub all_lowered : (y : List ℕ) (x : ℕ) (out : List ℕ) (l : ℕ) → length y ≡ 23 → Lowered y x out l → l ≡ 0 → out ≡ subtract y (word_of_bits x)
 all_lowered y x out l ly h e = ext_get_or 0 out (subtract y (word_of_bits x)) (h.room ∙ sym long) λ j g.
-    let i : 22 - (22 - j) ≡ j = omega (arith, h.room) in
-    let s = h.cells (22 - j) (omega arith) in
+    let s = h.cells j (omega (arith, h.room)) in
     rw (at-map2 (λ a b. a - b) y (word_of_bits x) j (omega (arith, h.room)) (omega (arith, h.room, length-word_of_bits x)))
-    (omega (arith, at-word_of_bits x j (omega (arith, h.room)), bit_at-zero (22 - j), rw (e, i) at s))
+    (omega (arith, at-no_bits j (omega (arith, h.room)), rw e at s))
   where
     long : length (subtract y (word_of_bits x)) ≡ 23
     long = length-map2 (λ a b. a - b) y (word_of_bits x) (ly ∙ sym (length-word_of_bits x)) ∙ ly

@@ -1,46 +1,49 @@
-// Decoding by the table of the 23-cell binary Golay code: the pattern with the word's syndrome is looked up, and nothing is searched.
+// Decoding a word of the 23-cell binary Golay code by the table of its patterns: the one pattern with the word's syndrome is looked up, and
+// nothing is searched.
 #![tactic(auto)]
 
 ghost use Rattle.std.specs.Prelude.{◌≡◌, ◌^◌, ◌%◌, ◌<◌, not, true, length};
 ghost use Rattle.definitions.specs.Words.{subtract, nowhere_above, all_below};
 ghost use Rattle.definitions.specs.Answers.{result as left_by};
-ghost use Rattle.definitions.specs.Decoding.{decode};
+ghost use Rattle.definitions.specs.Decoding.{decode as decoded_word};
 ghost use Rattle.definitions.specs.Demands.{of_code, DistanceDecides, KeepsMessages};
 ghost use Rattle.definitions.specs.CodeOperations.{decode_code};
 ghost use Rattle.definitions.specs.Golay.{golay_code, golay_body, word_of_bits, decode_golay};
 ghost use Rattle.answers.specs.Answering.{answer_of, leaves};
-ghost use Rattle.golay.specs.Clauses.{WithoutBit, WhereEven, WhereEvenReads};
+ghost use Rattle.golay.specs.Clauses.{WhereGolay, WhereGolayReads};
+ghost use Rattle.golay.specs.RisenCells.{WithoutCell};
 
 use answers::Refusal;
 
-// Takes the lowest bit that is set out of a pattern, and says which it is: that of the last risen cell.
-#[tactic(auto, using(crate::proofs::Walks::lowest_bit, crate::proofs::Walks::lowest_taken))]
-fn take_lowest(left: &mut u32) -> usize
+// Takes the last risen cell out of a pattern, and says which it is, counted from 0. A walk over these alone takes half the time of a pass
+// over 23 cells.
+#[tactic(auto, using(crate::proofs::Walks::lowest_bit, crate::proofs::Walks::last_taken))]
+fn take_last(left: &mut u32) -> usize
     requires some { 0 < left.old }
     requires bits { left.old < 2 ^ 23 }
-    ensures { WithoutBit left.old result left.new }
+    ensures { WithoutCell left.old result left.new }
 {
     let bit = left.trailing_zeros();
     *left &= !(1 << bit);
-    bit as usize
+    22 - bit as usize
 }
 
 // Whether a risen cell of the pattern was read at 0.
-#[tactic(auto, using(crate::proofs::Walks::all_unseen, crate::proofs::Walks::one_seen, crate::proofs::Walks::all_seen, crate::proofs::Walks::one_above))]
+#[tactic(auto, using(crate::proofs::Walks::all_unseen, crate::proofs::Walks::all_seen, crate::proofs::Walks::one_above))]
 fn is_above(pattern: u32, word: &[u8; 23]) -> bool
     requires { pattern < 2 ^ 23 }
     ensures { result ≡ not (nowhere_above (word_of_bits pattern) word.now) }
 {
     let mut left = pattern;
     while left != 0 {
-        if word[22 - take_lowest(&mut left)] == 0 {
+        if word[take_last(&mut left)] == 0 {
             return true;
         }
     }
     false
 }
 
-// The word less the pattern: only the risen cells are visited.
+// The word less the pattern.
 #[tactic(auto, using(crate::proofs::Walks::none_lowered, crate::proofs::Walks::can_lower, crate::proofs::Walks::all_lowered))]
 fn store_decoded(pattern: u32, word: &[u8; 23], out: &mut [u8])
     requires bits { pattern < 2 ^ 23 }
@@ -51,17 +54,17 @@ fn store_decoded(pattern: u32, word: &[u8; 23], out: &mut [u8])
     out.copy_from_slice(word);
     let mut left = pattern;
     while left != 0 {
-        let cell = 22 - take_lowest(&mut left);
+        let cell = take_last(&mut left);
         out[cell] = word[cell] - 1;
     }
 }
 
-// Decode a word of levels below q, which is even. The buffer is written only where the pattern is nowhere above the word.
+// Decode a word of levels below q. A cell at 0 refuses it before the buffer is written, so the risen cells are walked over twice.
 fn decode_word(q: usize, word: &[u8; 23], out: &mut [u8]) -> Result<usize, Refusal>
     requires even { q % 2 ≡ 0 }
     requires below { all_below q word.now ≡ true }
     requires room { length out.old ≡ 23 }
-    ensures { leaves (answer_of result) out.new ≡ left_by (decode (golay_code q) word.now) out.old }
+    ensures { leaves (answer_of result) out.new ≡ left_by (decoded_word (golay_code q) word.now) out.old }
 {
     let pattern = golay_table::pattern_at(golay_table::syndrome_index(word));
     if is_above(pattern, word) {
@@ -71,7 +74,7 @@ fn decode_word(q: usize, word: &[u8; 23], out: &mut [u8]) -> Result<usize, Refus
     Ok(pattern.count_ones() as usize)
 }
 
-// The refusals that come before a word is looked up, in their order.
+// The refusals that come before a pattern is looked up, in their order.
 #[tactic(auto, unfolding(definitions::specs::Golay::decode_golay))]
 fn decode_received(q: usize, received: &[u8], out: &mut [u8]) -> Result<usize, Refusal>
     ensures { leaves (answer_of result) out.new ≡ decode_golay q received.now out.old }
@@ -91,12 +94,14 @@ fn decode_received(q: usize, received: &[u8], out: &mut [u8]) -> Result<usize, R
     decode_word(q, word, out)
 }
 
-// Decode a word of the Golay code of q levels.
+// Read a word of the Golay code of q levels. What is given is the count.
 pub fn decode(q: usize, received: &[u8], out: &mut [u8]) -> Result<usize, Refusal>
     ensures result { leaves (answer_of result) out.new ≡ decode_golay q received.now out.old }
-    ensures as_by_search { WhereEven q (leaves (answer_of result) out.new ≡ decode_code (golay_body q) received.now out.old) }
-    ensures distance_decides { WhereEvenReads q received.now out.old (DistanceDecides (of_code (golay_code q)) received.now (answer_of result) out.new) }
-    ensures keeps_messages { WhereEvenReads q received.now out.old (KeepsMessages (of_code (golay_code q)) received.now (answer_of result) out.new) }
+    ensures as_by_search { WhereGolay q (leaves (answer_of result) out.new ≡ decode_code (golay_body q) received.now out.old) }
+    ensures distance_decides { WhereGolayReads q received.now out.old
+        (DistanceDecides (of_code (golay_code q)) received.now (answer_of result) out.new) }
+    ensures keeps_messages { WhereGolayReads q received.now out.old
+        (KeepsMessages (of_code (golay_code q)) received.now (answer_of result) out.new) }
 {
     decode_received(q, received, out)
 }

@@ -1,5 +1,5 @@
 -- The columns of the cells, and what their sum modulo 2 says of a word's syndrome.
-use Rattle.std.proofs.Common.{◌≡◌, ℕ, suc, zero, add-one, ◌+◌, ◌*◌, ◌-◌, ◌%◌, ◌^◌, ◌<◌, ◌≤◌, Bool, true, ◌&&◌, ltb, List, subst, refl, sym, ap, ap₂, ◌∙◌, map}
+use Rattle.std.proofs.Common.{◌≡◌, ℕ, suc, zero, add-one, ◌+◌, ◌*◌, ◌-◌, ◌%◌, ◌^◌, ◌<◌, Bool, true, ◌&&◌, ltb, List, subst, refl, sym, ap, ap₂, ◌∙◌, map}
 use Rattle.std.proofs.Common.{arith}
 use native.Mathlib.Nat.{mul-zero, mul-one}
 use lib.Dec.{T, ltb→lt}

@@ -42,8 +42,7 @@ unfolding is_right syndrome syndrome_entry
 told i x t =
     let few_on = and_right (same_word (syndrome (golay_code 2) (word_of_bits x)) (syndrome_of_index i)) _ t in
     let small_on = and_right (leb (weight (word_of_bits x)) 3) _ few_on in
-    let small = ltb→lt x (2 ^ 23) (and_left (ltb x (2 ^ 23)) _ small_on) in
-    (
+    let small = ltb→lt x (2 ^ 23) (and_left (ltb x (2 ^ 23)) _ small_on) in (
       record {
         bits = small;
         is_pattern = λ q. record {
