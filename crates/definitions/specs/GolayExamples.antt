@@ -1,5 +1,5 @@
--- A table of examples of decoding without a description, of the 23-cell Golay code, under the law of the first. The definition searches its
--- 2,048 patterns; no table of patterns is at hand here.
+-- A table of examples of decoding without a description, of the 23-cell Golay code, under the law of examples a to l. The definition searches
+-- its 2,048 patterns: no table of patterns is at hand here.
 use Rattle.std.specs.Prelude.{List, [], ◌∷◌, ◌++◌}
 use Rattle.definitions.specs.Examples.{Example, decodes_golay, zeros, back, declined}
 

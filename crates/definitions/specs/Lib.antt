@@ -60,7 +60,7 @@ pub mod Examples
 pub mod FurtherExamples
 -- a table of examples of labels, under the law of document 01's
 pub mod LabelExamples
--- a table of examples of decoding the Golay code without a description, under the law of document 01's
+-- a table of examples of decoding the Golay code without a description, under the same law
 pub mod GolayExamples
 -- sizes that a caller needs before a call, since 8 asks for exact lengths: an addition to document 01's operations
 pub mod Sizes

@@ -15,8 +15,8 @@ ghost use Rattle.golay.specs.RisenCells.{WithoutCell};
 
 use answers::Refusal;
 
-// Takes the last risen cell out of a pattern, and says which it is, counted from 0. A walk over these alone takes half the time of a pass
-// over 23 cells.
+// Takes the last risen cell out of a pattern, and says which it is, counted from 0. At most three are walked over, where a pass would look
+// at 23.
 #[tactic(auto, using(crate::proofs::Walks::lowest_bit, crate::proofs::Walks::last_taken))]
 fn take_last(left: &mut u32) -> usize
     requires some { 0 < left.old }

@@ -194,8 +194,8 @@ pub fn pattern_at(i: usize) -> u32
     PATTERNS[i]
 }
 
-// The index of a word's syndrome: the columns of the cells with an odd level, added modulo 2. By a product, not by `if`: so it is
-// faster, since no cell is asked for.
+// The index of a word's syndrome: the columns of the cells with an odd level, added modulo 2. By products and not by branches, so that it
+// takes the same steps for each word.
 #[tactic(auto, using(crate::proofs::Index::no_cells, crate::proofs::Index::next_cell, crate::proofs::Index::all_cells))]
 pub fn syndrome_index(word: &[u8; 23]) -> usize
     ensures below { result < 2048 }
