@@ -9,6 +9,7 @@
 pub mod circular;
 pub mod code;
 pub mod distance;
+pub mod golay;
 pub mod image;
 pub mod labeling;
 pub mod listing;
