@@ -18,6 +18,8 @@ mod coverage;
 mod exhaustive;
 #[path = "differential/generate.rs"]
 mod generate;
+#[path = "differential/golay.rs"]
+mod golay;
 #[path = "differential/images.rs"]
 mod images;
 #[path = "differential/labels.rs"]
@@ -56,10 +58,19 @@ const LABELS: usize = 3000;
 const IMAGES: usize = 1500;
 const NOTABLE_NUMBERS: usize = 20;
 const ORDER: usize = 12;
+const ORDER_OF_GOLAY: usize = 4;
 const ORDER_OF_STACKS: usize = 2;
 const PROGRAM_IMAGES: usize = 300;
 
-const WAYS: [&str; 5] = [codes::TOO_MANY_CELLS, codes::TOO_FAR, codes::BELOW_ZERO, codes::AT_CEILING, stacks::TOO_MANY_DIGITS];
+const WAYS: [&str; 7] = [
+    codes::TOO_MANY_CELLS,
+    codes::TOO_FAR,
+    codes::BELOW_ZERO,
+    codes::AT_CEILING,
+    golay::FOUR_CELLS,
+    golay::BELOW_ZERO,
+    stacks::TOO_MANY_DIGITS,
+];
 
 fn main() {
     let mut random = Random::new(SEED);
@@ -82,6 +93,7 @@ fn main() {
 
 fn run_order(tester: &mut Tester, random: &mut Random) {
     order::codes::run(tester, random, ORDER);
+    order::golay::run(tester, random, ORDER_OF_GOLAY);
     order::numbers::run(tester, random, ORDER);
     order::stacks::run(tester, random, ORDER_OF_STACKS);
     order::labels::run(tester, random, ORDER);
@@ -91,6 +103,7 @@ fn run_order(tester: &mut Tester, random: &mut Random) {
 
 fn run_generated(tester: &mut Tester, random: &mut Random) {
     (0..CODES).for_each(|_| tester.run_all(&codes::cases(random)));
+    golay::run(tester, random);
     (0..NOTABLE_NUMBERS).for_each(|_| tester.run_all(&numbers::notable_cases(random)));
     (0..STACKS).for_each(|_| tester.run_all(&stacks::cases(random)));
     (0..LABELS).for_each(|_| tester.run_all(&labels::cases(random)));
@@ -100,6 +113,6 @@ fn run_generated(tester: &mut Tester, random: &mut Random) {
 }
 
 fn some_of_each(random: &mut Random) -> Vec<Made> {
-    let generators = [codes::cases, stacks::cases, labels::cases, images::cases];
+    let generators = [codes::cases, golay::cases, stacks::cases, labels::cases, images::cases];
     (0..200).flat_map(|_| generators.iter().flat_map(|cases| cases(random)).collect::<Vec<Made>>()).collect()
 }

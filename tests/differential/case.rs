@@ -2,7 +2,7 @@
 
 use crate::fingerkerf;
 use crate::second::image::{Image, Record};
-use crate::second::{code, labeling, numbers, packing, stack, Decoded, Refused};
+use crate::second::{code, golay, labeling, numbers, packing, stack, Decoded, Refused};
 
 /// The enum of the operations, and the list of them all.
 macro_rules! operations {
@@ -16,7 +16,7 @@ macro_rules! operations {
 }
 
 operations! {
-    Test Encode Decode Recover
+    Test Encode Decode Recover DecodeGolay
     TestStack EncodeStack DecodeStack RecoverStack
     MakeLabels ToLevels ToStates
     Pack Unpack
@@ -31,7 +31,7 @@ pub struct Case {
     pub operation: Operation,
     /// The description, the label table or the image.
     pub first: Vec<u8>,
-    /// The kind of a labeling, an entry's number, or a message's number, whose 64 bits an x86-64 program's usize holds.
+    /// The kind of a labeling, an entry's number, a number of levels, or a message's number, whose 64 bits an x86-64 program's usize holds.
     pub number: usize,
     /// The message, word, states, levels or bytes.
     pub second: Vec<u8>,
@@ -83,6 +83,7 @@ pub fn call_library(operation: Operation, number: usize, first: &[u8], second: &
         Encode => plain(fingerkerf::encode(first, second, out)),
         Decode => reading(fingerkerf::decode(first, second, out)),
         Recover => plain(fingerkerf::recover(first, second, out)),
+        DecodeGolay => reading(fingerkerf::decode_golay(number, second, out)),
         TestStack => plain(fingerkerf::test_stack(first)),
         EncodeStack => plain(fingerkerf::encode_stack(first, second, out)),
         DecodeStack => reading(fingerkerf::decode_stack(first, second, out)),
@@ -135,6 +136,7 @@ pub fn expect(case: &Case) -> Expected {
         Encode => written(code::encode(first, second, *out_length)),
         Decode => with_tried(decoded(code::decode(first, second, *out_length)), first, second),
         Recover => written(code::recover(first, second, *out_length)),
+        DecodeGolay => decoded(golay::decode(*number, second, *out_length)),
         TestStack => accepted(stack::test(first)),
         EncodeStack => written(stack::encode(first, second, *out_length)),
         DecodeStack => decoded(stack::decode(first, second, *out_length)),

@@ -88,7 +88,7 @@ pub fn message(code: &Code, random: &mut Random) -> Vec<u8> {
 }
 
 /// Raise so many cells, or as many as there are with room, by at most `most`.
-fn raised(code: &Code, word: &[u8], cells: usize, most: usize, random: &mut Random) -> Vec<u8> {
+pub fn raised(code: &Code, word: &[u8], cells: usize, most: usize, random: &mut Random) -> Vec<u8> {
     let mut raised = word.to_vec();
     let mut room: Vec<usize> = (0..code.n).filter(|&cell| usize::from(word[cell]) + 1 < code.q).collect();
     for _ in 0..cells.min(room.len()) {

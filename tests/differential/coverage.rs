@@ -81,6 +81,7 @@ pub fn list(operation: Operation, planes: usize) -> Vec<String> {
         Encode => code(&[8, 9]),
         Decode => code(&[8, 10, 11]),
         Recover => code(&[8, 10, 12]),
+        DecodeGolay => numbers(&[2, 8, 10, 11]),
         TestStack => stack(&[6]),
         EncodeStack => stack(&[8, 9]),
         DecodeStack => [stack(&[8, 10]), vec![in_plane(11, planes - 1)]].concat(),

@@ -1,14 +1,15 @@
-//! Small codes and stacks, every word: what is decoded is decided by distance to every codeword. Small codes, every number: each has a
-//! message of its own. Small codes, every string of bytes: it is that of a message or refused.
+//! Small codes and stacks, and the Golay code of two levels, every word: what is decoded is decided by distance to every codeword. Small
+//! codes, every number: each has a message of its own. Small codes, every string of bytes: it is that of a message or refused.
 
-use crate::case::{Case, Operation};
+use crate::case::{call_library, compare, Answer, Case, Expected, Operation};
 use crate::generate::{bases, body_of};
+use crate::memory::FILL;
 use crate::packed::{byte_count, bytes_of, every_shape};
 use crate::random::Random;
 use crate::second::code::{self, Code};
 use crate::second::distance::{all_words, code_reaches, stack_reaches, words_below};
 use crate::second::stack::{self, Stack};
-use crate::second::{cells_that_differ, numbers, packing, Decoded, Refused};
+use crate::second::{cells_that_differ, golay, numbers, packing, Decoded, Refused};
 use crate::tester::{fail, Tester};
 use std::collections::{HashMap, HashSet};
 
@@ -36,6 +37,7 @@ pub fn run(tester: &mut Tester, random: &mut Random) {
         accepted += usize::from(every_word_of_code(fields, tester, random));
     }
     println!("every word of {} codes, {accepted} of them accepted", small.len() + chosen.len());
+    every_word_of_golay_code();
     every_number(tester, random);
     every_string_of_bytes(tester, random);
     let accepted = (0..STACKS).filter(|_| every_word_of_stack(tester, random)).count();
@@ -81,6 +83,33 @@ fn every_word_of_code(fields: &[usize; 6], tester: &mut Tester, random: &mut Ran
         tester.run(&Case::with(Operation::Recover, &body, word, code.n));
     }
     accepted
+}
+
+/// The table reader on every word of two levels. It is called directly, since in guarded memory this would take minutes.
+fn every_word_of_golay_code() {
+    let mut counts = [0; 4];
+    let codewords = golay::codewords_by_word();
+    for (number, codeword) in codewords.iter().enumerate() {
+        let word = golay::word_of(number);
+        let mut out = [FILL; golay::CELLS];
+        let answer = call_library(Operation::DecodeGolay, 2, &[], &word, &mut out);
+        let expected = match codeword.map(golay::word_of) {
+            Some(written) => {
+                let count = cells_that_differ(&word, &written);
+                counts[count] += 1;
+                Expected { answer: Answer { count, ..Answer::default() }, out: Some(written) }
+            }
+            None => Expected { answer: Answer { number: 11, ..Answer::default() }, out: None },
+        };
+        if let Err(difference) = compare(&expected, answer, &out, FILL) {
+            fail(&Case::with(Operation::DecodeGolay, &[], &word, golay::CELLS).numbered(2), &difference);
+        }
+    }
+    let given: usize = counts.iter().sum();
+    println!(
+        "every word of the Golay code of two levels: {given} given back, with counts 0 to 3 {counts:?}, {} refused 11",
+        codewords.len() - given
+    );
 }
 
 /// Numbers have nothing to do with l and t: each n, r, q and M with few words once, and the larger codes.

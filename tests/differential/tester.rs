@@ -84,7 +84,7 @@ impl Tester {
     }
 
     fn count_reading(&mut self, operation: Operation, label: &str) {
-        if matches!(operation, Operation::Decode | Operation::DecodeStack | Operation::ReadRow) {
+        if matches!(operation, Operation::Decode | Operation::DecodeGolay | Operation::DecodeStack | Operation::ReadRow) {
             let beyond = label.starts_with("11");
             self.read += usize::from(beyond || label == "done");
             self.beyond += usize::from(beyond);

@@ -1,6 +1,7 @@
 //! The order of refusals: of two faults in one case, the one that document 01 or 02 lists first is answered.
 
 pub mod codes;
+pub mod golay;
 pub mod images;
 pub mod labels;
 pub mod numbers;
