@@ -1,18 +1,21 @@
-//! Document 02: patterns tried for document 01's examples b, c, d and f (wish 1), numbers of messages (wish 2), and leftover bits
-//! (wish 3).
+//! Document 02: patterns tried for document 01's examples b, c, d and f (wish 1), numbers of messages (wish 2), leftover bits (wish 3),
+//! and the Golay code read by a table (wish 4).
 
 use crate::case::{Case, Operation};
 use crate::document01::{F, R};
 use crate::paper::Source;
+use crate::second::{code, golay, pattern};
 use std::collections::HashSet;
 
 /// Six-level cells that mend one rise of 1. It has 6^4 times 2^2 messages, more than there are transponder codes.
 const T: [u8; 14] = [6, 2, 6, 3, 1, 1, 1, 1, 2, 2, 1, 2, 1, 2];
 /// A transponder code has four octal digits.
 const TRANSPONDER_CODES: u64 = 0o10000;
+/// The columns of the Golay code's first twelve cells, row 1 of the matrix with the weight 1,024 and row 11 with 1.
+const COLUMNS: [usize; 12] = [1393, 1993, 1685, 1595, 1644, 822, 411, 1468, 734, 367, 1478, 739];
 
 pub fn run() -> usize {
-    patterns_tried() + transponder() + product_of_radices() + leftover_bits() + equal_rows()
+    patterns_tried() + transponder() + product_of_radices() + leftover_bits() + equal_rows() + golay_code() + golay_refusals()
 }
 
 fn patterns_tried() -> usize {
@@ -107,5 +110,53 @@ fn equal_rows() -> usize {
         }
     }
     source.holds("2^11 pairs of bytes are messages of R", rows.len() == 1 << 11);
+    source.done()
+}
+
+/// For every even q a codeword is read as it was written and with every pattern, by the table and by the search.
+fn golay_code() -> usize {
+    let mut source = Source::new("document 02, the Golay code by a table (every pattern, for every even q)");
+    source.holds("a pattern for each residue", pattern::count(23, 1, 3) == 1 << 11);
+    for q in (2..=64).step_by(2) {
+        let body = golay::body(q);
+        let column = |cell: usize| (0..11).fold(0, |column, row| column * 2 + usize::from(body[6 + 12 * row + cell]));
+        source.holds("the columns", (0..12).map(column).eq(COLUMNS));
+        source.accepts(&body);
+        let codeword = codeword_with_room(q, &body);
+        for pattern in pattern::all(23, 1, 3).iter() {
+            let mut word = codeword.clone();
+            pattern.risen().iter().for_each(|&(cell, _)| word[cell] += 1);
+            source.reads_by_table(q, &word, &codeword, pattern.risen().len());
+        }
+    }
+    source.done()
+}
+
+/// A codeword of the Golay code that has no level q - 1. Of two levels there is one, of 0s.
+fn codeword_with_room(q: usize, body: &[u8]) -> Vec<u8> {
+    let data = (0..12).map(|cell| ((5 * cell + 1) % (q - 1)) as u8);
+    code::encode(body, &data.chain([0; 11]).collect::<Vec<u8>>(), 23).expect("a sound message")
+}
+
+/// 2, 8, 10 and 11, and their order.
+fn golay_refusals() -> usize {
+    let mut source = Source::new("document 02, the Golay code by a table (2 for every other q; 8; 10; 11)");
+    let mut refuses = |q: usize, word: &[u8], out_length: usize, number: usize| {
+        source.answers(&Case::with(Operation::DecodeGolay, &[], word, out_length).numbered(q), number);
+    };
+    for q in (0..=256).filter(|q| q % 2 == 1 || !(2..=64).contains(q)).chain([264, 65_544, (1 << 32) + 8, usize::MAX - 1, usize::MAX]) {
+        refuses(q, &[0; 23], 23, 2);
+        refuses(q, &[255; 22], 23, 2);
+    }
+    for q in (2..=64).step_by(2) {
+        refuses(q, &[0; 22], 23, 8);
+        refuses(q, &[255; 23], 24, 8);
+        // The residue of these four is also that of three others, which were read at 0.
+        let mut word = [0; 23];
+        word[..4].fill(1);
+        refuses(q, &word, 23, 11);
+        word[22] = q as u8;
+        refuses(q, &word, 23, 10);
+    }
     source.done()
 }

@@ -1,6 +1,7 @@
 //! What a source says, put to the library and to the second implementation.
 
 use crate::case::{call_library, compare, expect, Answer, Case, Operation};
+use crate::second::golay;
 
 /// What an output holds before a call.
 const FILL: u8 = 0xA5;
@@ -76,6 +77,20 @@ impl Source {
     pub fn tries(&mut self, body: &[u8], word: &[u8], place: usize) {
         let answer = self.answers(&Case::with(Operation::Decode, body, word, word.len()), 0);
         self.holds(&format!("{body:?} reads {word:?} with {place} tried, not {answer:?}"), answer.tried == place);
+    }
+
+    /// The word of the Golay code of q levels is read by the table, to that codeword with that count; the search reads the same.
+    pub fn reads_by_table(&mut self, q: usize, word: &[u8], codeword: &[u8], count: usize) {
+        let (by_table, levels) = self.call(&Case::with(Operation::DecodeGolay, &[], word, codeword.len()).numbered(q));
+        let reading = Answer { count, ..Answer::default() };
+        self.holds(
+            &format!("{q} levels, {word:?} is read by the table, not {by_table:?} {levels:?}"),
+            by_table == reading && levels == codeword,
+        );
+        let mut found = vec![FILL; codeword.len()];
+        let by_search = call_library(Operation::Decode, 0, &golay::body(q), word, &mut found);
+        let alike = by_table == (Answer { tried: 0, ..by_search }) && found == levels;
+        self.holds(&format!("{q} levels, {word:?} is read by the search, not {by_search:?} {found:?}"), alike);
     }
 
     /// The number has a message, which is given back; and that message has the number.
