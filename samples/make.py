@@ -6,6 +6,10 @@ R = [5, 4, 8, 2, 1, 2, 1, 1, 1, 1]
 S = [3, 3] + 3 * [2, 2, 1, 1, 1]
 K = [2, 1, 2, 1, 0, 1]
 G = [2, 1, 8, 2, 1, 1, 1]
+# codewords of the Golay code of 8, 64 and 7 levels: odd are, of the last twelve cells, those where the generator has a coefficient
+OF_8 = [6, 2, 4, 6, 0, 2, 4, 6, 0, 2, 4, 1, 6, 3, 0, 5, 7, 1, 4, 2, 0, 3, 1]
+OF_64 = [62, 2, 40, 60, 0, 18, 4, 46, 0, 22, 24, 1, 36, 63, 10, 55, 7, 31, 44, 20, 0, 63, 1]
+OF_7 = [6, 2, 4, 6, 0, 2, 4, 6, 0, 2, 4, 1, 4, 3, 0, 5, 5, 1, 4, 2, 0, 3, 1]
 PLAN, STACK, ROW = 1, 2, 3
 
 
@@ -21,6 +25,20 @@ def image(entries, gap=0, after=0):
         bodies += body
         place += len(body)
     return bytes(directory + bodies + after * [0])
+
+
+def golay(q):
+    """The binary Golay code of 23 cells and q levels: the column of cell j is the remainder of x^(23-j) by
+    x^11 + x^9 + x^7 + x^6 + x^5 + x + 1, and row k has the coefficients of x^(11-k)."""
+    remainders = [1]
+    for _ in range(22):
+        left = 2 * remainders[-1]
+        remainders.append(left ^ 0b1010_1110_0011 if left >> 11 else left)
+    return [23, 11, q, 2, 1, 3] + [remainders[23 - j] >> (11 - k) & 1 for k in range(1, 12) for j in range(1, 13)]
+
+
+def risen(row, *cells):
+    return [level + (cell in cells) for cell, level in enumerate(row, 1)]
 
 
 SAMPLES = {
@@ -43,6 +61,25 @@ SAMPLES = {
         (ROW, 2, [0, 1, 8]),
         (ROW, 2, []),
         (ROW, 3, [0, 1]),
+    ]),
+    # the Golay code: rows with no, one, two and three cells risen; a row refused 11, whose cell 12 was read at 0, rows refused 8 and 10;
+    # a row of R between; 64 levels; and 7 levels, where the check cells of codewords stay below 6, one risen to 6
+    "golay": image([
+        (PLAN, 0, golay(8)),
+        (ROW, 1, OF_8),
+        (ROW, 1, risen(OF_8, 5)),
+        (ROW, 1, risen(OF_8, 12, 20)),
+        (ROW, 1, risen(OF_8, 1, 14, 23)),
+        (ROW, 1, OF_8[:11] + [0] + OF_8[12:]),
+        (ROW, 1, OF_8[:22]),
+        (ROW, 1, [8] + OF_8[1:]),
+        (PLAN, 0, R),
+        (ROW, 9, [4, 5, 3, 2, 1]),
+        (PLAN, 0, golay(64)),
+        (ROW, 11, risen(OF_64, 1, 2, 21)),
+        (ROW, 11, risen(OF_64, 6, 7, 8, 9)),
+        (PLAN, 0, golay(7)),
+        (ROW, 14, risen(OF_7, 2, 16)),
     ]),
     # no row entry, so no line
     "no-rows": image([(PLAN, 0, R), (STACK, 0, S)]),
