@@ -19,12 +19,17 @@ target/bin/cartlist:
 
 # What is tested from outside: names in the documents, the boundary from Rust, C and Pascal, the sample images.
 .PHONY: outside
-outside: names evidence samples languages
+outside: names golay_table evidence samples languages
 
 # make names looks for each file, theorem, clause and edit that docs/PROMISES.md names.
 .PHONY: names
 names:
 	python3 tests/names.py
+
+# make golay_table compares the Golay code's table in the library with one made from the generator polynomial.
+.PHONY: golay_table
+golay_table:
+	python3 tests/golay_table.py
 
 # make samples compares what cartlist prints for each sample image with samples/EXPECTED.
 .PHONY: samples
@@ -50,13 +55,16 @@ evidence: $(LIBRARY) target/bin/cartlist
 	build/sources
 	build/differential target/bin/cartlist
 
-# make languages runs document 01's examples and document 02's from C, and prints the rows of the sample images from C, Rust and Pascal.
+# make languages runs document 01's examples and document 02's from C, and prints the rows of the sample images from C, Rust and Pascal,
+# those of the Golay code by its table too.
 .PHONY: languages
 languages: $(LIBRARY)
 	gcc -std=c99 -Wall -Wextra -Werror -o build/examples bindings/c/examples.c -Ltarget/staticlib -lfingerkerf
 	build/examples
 	gcc -std=c99 -Wall -Wextra -Werror -o build/effort bindings/c/effort.c -Ltarget/staticlib -lfingerkerf
 	tests/rows.sh build/effort samples/EFFORT
+	gcc -std=c99 -Wall -Wextra -Werror -o build/golay bindings/c/golay.c -Ltarget/staticlib -lfingerkerf
+	tests/rows.sh build/golay samples/EXPECTED
 	$(RUST) -o build/rows_rust bindings/rust/rows.rs
 	tests/rows.sh build/rows_rust samples/EXPECTED
 	if command -v fpc > /dev/null; then \

@@ -1,5 +1,5 @@
-/* Document 01's examples, and a transponder number and leftover bits as document 02 wants them, through the C boundary. Prints a line for
- * each that fails, then how many passed. */
+/* Document 01's examples, and a transponder number and leftover bits as document 02 wants them, and the Golay code's table, through the C
+ * boundary. Prints a line for each that fails, then how many passed. */
 #include <stdio.h>
 #include <string.h>
 
@@ -50,6 +50,11 @@ static levels_reading decode(const uint8_t *body, size_t body_len, const uint8_t
 static levels_reading decode_stack(const uint8_t *body, size_t body_len, const uint8_t *word, size_t n, uint8_t *out) {
     memset(out, 9, n);
     return levels_decode_stack(body, body_len, word, n, out, n);
+}
+
+static levels_reading decode_golay(size_t q, const uint8_t *word, size_t word_len, uint8_t *out, size_t out_len) {
+    memset(out, 9, out_len);
+    return levels_decode_golay(q, word, word_len, out, out_len);
 }
 
 static size_t message_of_number(const uint8_t *body, size_t body_len, uint64_t value, uint8_t *out, size_t n) {
@@ -145,6 +150,38 @@ static void leftover_bits(void) {
     expect("no leftover bits", unpack(whole, sizeof whole, byte, 1, out, 8) == 0 && memcmp(out, ones, 8) == 0);
 }
 
+/* A codeword of the Golay code of eight levels, and rows read with one and with three cells risen. */
+static const uint8_t GOLAY[] = {6, 2, 4, 6, 0, 2, 4, 6, 0, 2, 4, 1, 6, 3, 0, 5, 7, 1, 4, 2, 0, 3, 1};
+static const uint8_t ONE_RISEN[] = {6, 2, 4, 6, 1, 2, 4, 6, 0, 2, 4, 1, 6, 3, 0, 5, 7, 1, 4, 2, 0, 3, 1};
+static const uint8_t THREE_RISEN[] = {7, 2, 4, 6, 0, 2, 4, 6, 0, 2, 4, 1, 6, 4, 0, 5, 7, 1, 4, 2, 0, 3, 2};
+
+/* No pattern is tried: it is looked up. */
+static void golay(void) {
+    uint8_t out[23];
+    const uint8_t zeros[23] = {0}, first[23] = {1};
+    expect("Golay code", gives(decode_golay(8, GOLAY, 23, out, 23), 0, 0, out, GOLAY, 23));
+    expect("Golay code, one cell", gives(decode_golay(8, ONE_RISEN, 23, out, 23), 1, 0, out, GOLAY, 23));
+    expect("Golay code, three cells", gives(decode_golay(8, THREE_RISEN, 23, out, 23), 3, 0, out, GOLAY, 23));
+    expect("Golay code, 64 levels", gives(decode_golay(64, THREE_RISEN, 23, out, 23), 3, 0, out, GOLAY, 23));
+    expect("Golay code, two levels", gives(decode_golay(2, first, 23, out, 23), 1, 0, out, zeros, 23));
+}
+
+/* Cell 12 of the codeword is at 1. With a 0 there, only lowering that 0 would give a codeword. */
+static void golay_refusals(void) {
+    uint8_t out[24], beyond[23];
+    memcpy(beyond, GOLAY, 23);
+    beyond[11] = 0;
+    expect("Golay code, 2", refuses(decode_golay(9, GOLAY, 23, out, 23), 2, 0, out, 23));
+    expect("Golay code, 2, no levels", refuses(decode_golay(0, GOLAY, 23, out, 23), 2, 0, out, 23));
+    expect("Golay code, 2, 66 levels", refuses(decode_golay(66, GOLAY, 23, out, 23), 2, 0, out, 23));
+    expect("Golay code, 2, 8 modulo 256", refuses(decode_golay(264, GOLAY, 23, out, 23), 2, 0, out, 23));
+    expect("Golay code, 2, the most levels", refuses(decode_golay(SIZE_MAX - 1, GOLAY, 22, out, 24), 2, 0, out, 24));
+    expect("Golay code, 8", refuses(decode_golay(8, GOLAY, 22, out, 23), 8, 0, out, 23));
+    expect("Golay code, 8, output", refuses(decode_golay(2, GOLAY, 23, out, 24), 8, 0, out, 24));
+    expect("Golay code, 10", refuses(decode_golay(6, beyond, 23, out, 23), 10, 0, out, 23));
+    expect("Golay code, 11", refuses(decode_golay(8, beyond, 23, out, 23), 11, 0, out, 23));
+}
+
 static void image(void) {
     uint8_t out[5];
     const uint8_t x[] = {2, 1, 0, 13, 0, 10, 0, 3, 1, 23, 0, 5, 0, 5, 4, 8, 2, 1, 2, 1, 1, 1, 1, 4, 5, 3, 2, 1};
@@ -162,6 +199,8 @@ int main(void) {
     transponder();
     numbers();
     leftover_bits();
+    golay();
+    golay_refusals();
     image();
     printf("examples in C: %d passed, %d failed\n", passed, failed);
     return failed != 0;
