@@ -110,11 +110,14 @@ pub fn cases(random: &mut Random) -> Vec<Made> {
     words(&code_of(2 * random.between(1, 32)), random)
 }
 
+/// Words within reach and beyond it, then such words in buffers of a wrong length and with a level too large.
 fn cases_of(q: usize, random: &mut Random) -> Vec<Made> {
     let code = code_of(q);
     let mut cases: Vec<Made> = (0..CODEWORDS).flat_map(|_| words(&code, random)).collect();
-    cases.extend(wrong_lengths(&codeword(&code, random)).map(|(word, out_length)| made(case_of(q, &word, out_length))));
-    cases.extend(large_levels(q, &codeword(&code, random)).map(|word| made(case_of(q, &word, CELLS))));
+    for word in [codeword(&code, random), below_zero(&code, random), vec![255; CELLS]] {
+        cases.extend(wrong_lengths(&word).map(|(word, out_length)| made(case_of(q, &word, out_length))));
+        cases.extend(large_levels(q, &word).map(|word| made(case_of(q, &word, CELLS))));
+    }
     cases
 }
 
