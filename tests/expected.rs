@@ -5,7 +5,7 @@
 mod second;
 
 use second::image::{Image, Record};
-use second::{code, labeling, numbers, packing, stack, Decoded, Refused};
+use second::{code, golay, labeling, numbers, packing, stack, Decoded, Refused};
 
 /// What an output holds before a call.
 const FILL: u8 = 9;
@@ -55,6 +55,7 @@ fn answer(line: &str) -> String {
         "decode" => decoded(&first, &bytes(), out_length),
         "recover" => written(code::recover(&first, &bytes(), out_length), out_length),
         "code_cells" => sized(code::cells(&first)),
+        "decode_golay" => read(golay::decode(decimal(second), &first, out_length), out_length),
         "test_stack" => tested(stack::test(&first)),
         "encode_stack" => written(stack::encode(&first, &bytes(), out_length), out_length),
         "decode_stack" => read(stack::decode(&first, &bytes(), out_length), out_length),

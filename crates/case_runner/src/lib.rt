@@ -3,8 +3,8 @@
 //     decode 5 4 8 2 1 2  1 1 1 1 / 4 5 3 2 1 / 5
 //
 // is the operation's word, what it takes (body, input), and last the length of the output, which holds 9s before the
-// call. The input of message_of_number is one number. The answer is followed by what the output holds after the call:
-// `count 2: 3 5 3 1 1`. A line that is empty or starts with # is printed as it is.
+// call. The input of message_of_number and of decode_golay is one number. The answer is followed by what the output holds
+// after the call: `count 2: 3 5 3 1 1`. A line that is empty or starts with # is printed as it is.
 #![tactic(auto)]
 
 use crate::fields::{Call, Case};
@@ -13,6 +13,7 @@ use std::alloc::AllocError;
 
 mod code_cases;
 mod fields;
+mod golay_cases;
 mod image_cases;
 mod label_cases;
 mod number_cases;
@@ -33,6 +34,7 @@ fn answer(rt: &impl Alloc, case: &Case, out: &mut [u8]) -> Result<Answer, AllocE
     };
     Ok(
         code_cases::run(&call, out)
+            .or_else(|| golay_cases::run(&call, out))
             .or_else(|| stack_cases::run(&call, out))
             .or_else(|| label_cases::run(&call, out))
             .or_else(|| packing_cases::run(&call, out))
