@@ -71,10 +71,14 @@ languages: $(LIBRARY)
 	    fpc -v0 -Fubindings/pascal -Fltarget/staticlib -FEbuild -obuild/rows_pascal bindings/pascal/rows.pas && tests/rows.sh build/rows_pascal samples/EXPECTED; \
 	else echo "fpc is not installed: the Pascal unit is not tried"; fi
 
+# liquid-dsp's decoder of the Golay code is timed too where it is installed.
+LIQUID = $(shell echo 'int main(void) { return 0; }' | gcc -x c - -lliquid -o /dev/null 2> /dev/null && echo --cfg liquid -l liquid)
+
 # make bench prints, for each case, our time divided by plain Rust's; and the times of the largest images.
+# build/bench --golay then prints those of the table of the Golay code alone.
 .PHONY: bench
 bench: $(LIBRARY) target/bin/cartlist
-	$(RUST) -C opt-level=3 -C codegen-units=1 -o build/bench bench/main.rs
+	$(RUST) -C opt-level=3 -C codegen-units=1 --check-cfg 'cfg(liquid)' $(LIQUID) -o build/bench bench/main.rs
 	build/bench target/bin/cartlist
 
 # The tool that lists rows read differently in a circle (docs/MIGRATION.md).

@@ -1,5 +1,6 @@
 //! The benchmark's cases: codes, stacks and words, the same in every run.
 
+use crate::golay::remainder;
 use crate::plain;
 
 pub enum Operation {
@@ -95,13 +96,59 @@ pub fn columns_from_one(numbers: &mut Numbers, fields: [u8; 6]) -> Vec<u8> {
 
 /// The binary Golay code over q levels: the column of cell j is the remainder of x^(23 - j).
 fn golay(q: u8) -> Vec<u8> {
-    let generator = 0b1010_1110_0011u32;
-    let remainder = |power: u32| (0..power).fold(1u32, |x, _| if x & 1 << 10 != 0 { x << 1 ^ generator } else { x << 1 });
     let mut body = vec![23, 11, q, 2, 1, 3];
     for k in 0..11 {
-        body.extend((1..=12).map(|j| (remainder(23 - j) >> (10 - k) & 1) as u8));
+        body.extend((1..=12).map(|j| (remainder(1 << (23 - j)) >> (10 - k) & 1) as u8));
     }
     body
+}
+
+/// A random codeword of the Golay code over q levels, with cell 21 at 1 and the two after it below q - 1.
+fn golay_codeword(numbers: &mut Numbers, q: u8) -> [u8; 23] {
+    loop {
+        let mut word: [u8; 23] = std::array::from_fn(|_| numbers.below(q.into()) as u8);
+        let odd = word.iter().fold(0, |bits, &level| bits << 1 | (level & 1) as u32);
+        for (i, level) in word.iter_mut().enumerate() {
+            *level ^= (remainder(odd) >> (22 - i) & 1) as u8;
+        }
+        if word[20] == 1 && word[21] < q - 1 && word[22] < q - 1 {
+            return word;
+        }
+    }
+}
+
+/// A word that is decoded by the table of the Golay code.
+pub struct GolayCase {
+    pub name: &'static str,
+    /// Our time is to be at most this part of the search's.
+    pub search_aim: f64,
+    pub body: Vec<u8>,
+    pub word: [u8; 23],
+    /// The cells that differ from the codeword: cell j is bit 23 - j.
+    pub pattern: u32,
+    /// The count, or the refusal's number.
+    pub answer: Result<usize, usize>,
+}
+
+/// One codeword with its last cells risen: the last pattern of each weight. It is refused where the first of them fell to 0 instead.
+pub fn golay_cases() -> [GolayCase; 5] {
+    let q = 8;
+    let codeword = golay_codeword(&mut Numbers(1), q);
+    [
+        ("clean word", f64::INFINITY, [0, 0, 0], Ok(0)),
+        ("1 cell late in the order", f64::INFINITY, [0, 0, 1], Ok(1)),
+        ("2 cells late in the order", f64::INFINITY, [0, 1, 1], Ok(2)),
+        ("3 cells late in the order", 0.1, [1, 1, 1], Ok(3)),
+        ("refused, a cell at 0", f64::INFINITY, [-1, 1, 1], Err(11)),
+    ]
+    .map(|(name, search_aim, rises, answer)| {
+        let mut word = codeword;
+        for (level, rise) in word[20..].iter_mut().zip(rises) {
+            *level = level.wrapping_add_signed(rise);
+        }
+        let pattern = rises.iter().fold(0, |bits, &rise| bits << 1 | (rise != 0) as u32);
+        GolayCase { name, search_aim, body: golay(q), word, pattern, answer }
+    })
 }
 
 /// The bucket that acceptance (crates/acceptance/src/different.rt) puts a syndrome of at most 12 entries in.
