@@ -1,16 +1,14 @@
 -- Walks over the risen cells of a pattern, from the last to the first.
-use Rattle.std.proofs.Common.{◌≡◌, ◌≢◌, ℕ, ◌+◌, ◌*◌, ◌-◌, ◌%◌, ◌^◌, ◌<◌, ◌≤◌, true, false, List, length, set, refl, sym, ap, ◌∙◌}
-use Rattle.std.proofs.Common.{subst, inl, inr, arith, w32, get_or-set_same, get_or-set_other}
+use Rattle.std.proofs.Common.{◌≡◌, ◌≢◌, ℕ, zero, suc, ◌+◌, ◌-◌, ◌/◌, ◌^◌, ◌<◌, ◌≤◌, min, true, false, List, length, set, refl, sym, ap, ◌∙◌}
+use Rattle.std.proofs.Common.{subst, inl, inr, ◌⊎◌, arith, w32, get_or-set_same, get_or-set_other}
 use lib.Dec.{T}
 use lib.Seq.{ext_get_or}
-use lib.Pow.{pow-lt, pow_pos}
-use native.Mathlib.Nat.{one-mul, mod-eq_of_lt}
-use Rattle.std.specs.Int.{bit_at, bit_not, trailing_zeros}
+use Rattle.std.specs.Int.{bit_at, trailing_zeros}
 use Rattle.std.specs.Int.Bits.{bit_and}
 use Rattle.std.proofs.Math.ListN.{length-set}
 use Rattle.std.proofs.lemmas.Bool.{cases_eq, cases_lt, false_from_ne_true}
-use Rattle.std.proofs.lemmas.Nat.{and_comm, and-not}
-use Rattle.std.proofs.lemmas.Nat.Bits.{and_pow, bit_at-zero, bit_at_above, bit_at-trailing_zeros, bit_at_clear_same, bit_at_clear_other}
+use Rattle.std.proofs.lemmas.Nat.{and_le_r}
+use Rattle.std.proofs.lemmas.Nat.Bits.{bit_at-zero, bit_at_above, bit_at-trailing_zeros, bit_at_and, bit_at-suc, bit_at_lowest}
 use Rattle.definitions.specs.Words.{at, subtract, nowhere_above}
 use Rattle.definitions.specs.Golay.{word_of_bits}
 use Rattle.definitions.proofs.Tests.{above-each, each-above}
@@ -25,39 +23,53 @@ lowest_bit n pos small =
     elim (cases_lt (trailing_zeros w32 n) 23) as (λ _. trailing_zeros w32 n ≤ 22)
     [ inl l ↦ omega arith | inr g ↦ let z = bit_at_above n 23 (trailing_zeros w32 n) small g in absurd (omega arith) ]
 
--- the lowest bit is cleared
-module _ (n : ℕ) (pos : 0 < n) (small : n < 2 ^ 23) where
-  abbrev pub k : ℕ
-  k = trailing_zeros w32 n
+-- one less than a number has no bit where the lowest bit of that is, and above it the same bits
+one_less_at : (t n : ℕ) → bit_at n t ≡ 1 → ((i : ℕ) → i < t → bit_at n i ≡ 0) → bit_at (n - 1) t ≡ 0
+one_less_at zero n s z = omega (arith, bit_at_lowest n, bit_at_lowest (n - 1))
+one_less_at (suc t) n s z =
+    let half : (n - 1) / 2 ≡ n / 2 - 1 = omega (arith, bit_at_lowest n, z 0 (omega arith)) in
+    bit_at-suc (n - 1) t ∙ ap (λ (m : ℕ). bit_at m t) half
+    ∙ one_less_at t (n / 2) (sym (bit_at-suc n t) ∙ s) (λ i l. sym (bit_at-suc n i) ∙ z (suc i) (omega arith))
 
-  abbrev pub left : ℕ
-  left = bit_and n (bit_not w32 (1 * 2 ^ k % 2 ^ 32))
+one_less_above : (t n i : ℕ) → bit_at n t ≡ 1 → ((i : ℕ) → i < t → bit_at n i ≡ 0) → t < i → bit_at (n - 1) i ≡ bit_at n i
+one_less_above t n zero s z l = absurd (omega arith)
+one_less_above zero n (suc i) s z l =
+    let half : (n - 1) / 2 ≡ n / 2 = omega (arith, bit_at_lowest n) in
+    bit_at-suc (n - 1) i ∙ ap (λ (m : ℕ). bit_at m i) half ∙ sym (bit_at-suc n i)
+one_less_above (suc t) n (suc i) s z l =
+    let half : (n - 1) / 2 ≡ n / 2 - 1 = omega (arith, bit_at_lowest n, z 0 (omega arith)) in
+    bit_at-suc (n - 1) i ∙ ap (λ (m : ℕ). bit_at m i) half
+    ∙ one_less_above t (n / 2) i (sym (bit_at-suc n t) ∙ s) (λ i l. sym (bit_at-suc n i) ∙ z (suc i) (omega arith)) (omega arith)
+    ∙ sym (bit_at-suc n i)
 
-  fewer : left < n
-  fewer =
-      let (a, b, c) = bit_at-trailing_zeros w32 n pos (omega arith) in
-      let f : 2 ^ k < 2 ^ 32 = pow-lt a in
-      let p : 1 * 2 ^ k % 2 ^ 32 ≡ 2 ^ k = ap (λ (z : ℕ). z % 2 ^ 32) (one-mul (2 ^ k)) ∙ mod-eq_of_lt f in
-      let z : bit_and (2 ^ k) n ≡ 2 ^ k = and_comm (2 ^ k) n ∙ and_pow n k ∙ ap (λ d. d * 2 ^ k) b ∙ one-mul (2 ^ k) in
-      rw (p, and_comm n (2 ^ 32 - 1 - 2 ^ k)) (omega (arith, and-not 32 (2 ^ k) n f (omega arith), z, pow_pos k))
-
-  -- it is the bit of the last risen cell
-  cell_bit : (x : ℕ) → at (word_of_bits x) (22 - k) ≡ bit_at x k
-  cell_bit x = at-word_of_bits x (22 - k) (omega arith) ∙ ap (bit_at x) (omega (arith, lowest_bit n pos small))
-
-  pub last_taken : WithoutCell n (22 - k) left
-  last_taken =
-      let (a, b, c) = bit_at-trailing_zeros w32 n pos (omega arith) in
-      record {
-        in_word = omega arith;
-        risen = cell_bit n ∙ b;
-        gone = cell_bit left ∙ bit_at_clear_same w32 n k a;
-        others = λ j h e.
-            at-word_of_bits left j h
-            ∙ bit_at_clear_other w32 n k a (22 - j) (let m : 22 - j < 32 = omega arith in m) (λ s. e (omega arith))
-            ∙ sym (at-word_of_bits n j h);
-        fewer = fewer;
-      }
+-- so the lowest bit is cleared, which is that of the last risen cell
+pub last_taken : (n : ℕ) → 0 < n → n < 2 ^ 23 → WithoutCell n (22 - trailing_zeros w32 n) (bit_and n (n - 1))
+last_taken n pos small =
+    let k = trailing_zeros w32 n in
+    let (a, b, c) = bit_at-trailing_zeros w32 n pos (omega arith) in
+    let low : k ≤ 22 = lowest_bit n pos small in
+    let back : 22 - (22 - k) ≡ k = omega arith in
+    record {
+      in_word = omega arith;
+      risen = at-word_of_bits n (22 - k) (omega arith) ∙ ap (bit_at n) back ∙ b;
+      gone =
+          at-word_of_bits (bit_and n (n - 1)) (22 - k) (omega arith) ∙ ap (bit_at (bit_and n (n - 1))) back
+          ∙ omega (arith, bit_at_and n (n - 1) k, one_less_at k n b c);
+      others = λ j h e.
+          at-word_of_bits (bit_and n (n - 1)) j h
+          ∙ bit_at_and n (n - 1) (22 - j)
+          ∙ step (22 - j) (cases_lt (22 - j) k) (omega arith)
+          ∙ sym (at-word_of_bits n j h);
+      fewer = omega (arith, and_le_r n (n - 1));
+    }
+  where
+    step : (i : ℕ) → (i < trailing_zeros w32 n) ⊎ (trailing_zeros w32 n ≤ i) → i ≢ trailing_zeros w32 n → min (bit_at n i) (bit_at (n - 1) i) ≡ bit_at n i
+    step i (inl l) e =
+        let (a, b, c) = bit_at-trailing_zeros w32 n pos (omega arith) in
+        omega (arith, c i l)
+    step i (inr g) e =
+        let (a, b, c) = bit_at-trailing_zeros w32 n pos (omega arith) in
+        omega (arith, one_less_above (trailing_zeros w32 n) n i b c (omega arith))
 
 at-no_bits : (j : ℕ) → j < 23 → at (word_of_bits 0) j ≡ 0
 at-no_bits j h = at-word_of_bits 0 j h ∙ bit_at-zero (22 - j)
@@ -73,8 +85,8 @@ pub record Left (x left : ℕ) : Type 0 where
 all_left : (x : ℕ) → x < 2 ^ 23 → Left x x
 all_left x h = record { small = h; within = λ j l. omega arith }
 
-one_less : (x l c r : ℕ) → Left x l → WithoutCell l c r → Left x r
-one_less x l c r h w = record {
+one_fewer : (x l c r : ℕ) → Left x l → WithoutCell l c r → Left x r
+one_fewer x l c r h w = record {
   small = omega (arith, h.small, w.fewer);
   within = λ j g. elim (cases_eq j c) as (λ _. at (word_of_bits r) j ≤ at (word_of_bits x) j)
       [ inl e ↦ rw (e, w.gone) (omega arith) | inr d ↦ rw (w.others j g d) (h.within j g) ];
@@ -90,7 +102,7 @@ all_unseen y x h = record { rest = all_left x h; seen = λ j l. omega arith }
 
 pub one_seen : (y : List ℕ) (x l c r : ℕ) → Under y x l → WithoutCell l c r → at y c ≢ 0 → Under y x r
 one_seen y x l c r h w n = record {
-  rest = one_less x l c r h.rest w;
+  rest = one_fewer x l c r h.rest w;
   seen = λ j g. elim (cases_eq j c) as (λ _. at (word_of_bits x) j ≤ at (word_of_bits r) j + at y j)
       [ inl e ↦ rw (e, w.gone) (omega (arith, bit_le x c w.in_word)) | inr d ↦ rw (w.others j g d) (h.seen j g) ];
 }
@@ -125,7 +137,7 @@ can_lower y x out l c r ly t h w = omega (arith, under_at y x c ly t w.in_word, 
 pub one_lowered : (y : List ℕ) (x : ℕ) (out : List ℕ) (l c r : ℕ) → Lowered y x out l → WithoutCell l c r → 1 ≤ at y c
     → Lowered y x (set out c (at y c - 1)) r
 one_lowered y x out l c r h w n = record {
-  rest = one_less x l c r h.rest w;
+  rest = one_fewer x l c r h.rest w;
   room = simp length-set h.room;
   cells = λ j g. elim (cases_eq j c) as (λ _. at (set out c (at y c - 1)) j + at (word_of_bits x) j ≡ at y j + at (word_of_bits r) j) [
     | inl e ↦

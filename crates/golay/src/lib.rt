@@ -2,7 +2,8 @@
 // nothing is searched.
 #![tactic(auto)]
 
-ghost use Rattle.std.specs.Prelude.{◌≡◌, ◌^◌, ◌%◌, ◌<◌, not, true, length};
+ghost use Rattle.std.specs.Prelude.{◌≡◌, ◌^◌, ◌%◌, ◌<◌, ◌≤◌, not, true};
+ghost use Rattle.std.specs.Simd.Lanes.{chunk};
 ghost use Rattle.definitions.specs.Words.{subtract, nowhere_above, all_below};
 ghost use Rattle.definitions.specs.Answers.{result as left_by};
 ghost use Rattle.definitions.specs.Decoding.{decode as decoded_word};
@@ -14,6 +15,7 @@ ghost use Rattle.golay.specs.Clauses.{WhereGolay, WhereGolayReads};
 ghost use Rattle.golay.specs.RisenCells.{WithoutCell};
 
 use answers::Refusal;
+use std::simd::prelude::*;
 
 // Takes the last risen cell out of a pattern, and says which it is, counted from 0. At most three are walked over, where a pass would look
 // at 23.
@@ -24,7 +26,7 @@ fn take_last(left: &mut u32) -> usize
     ensures { WithoutCell left.old result left.new }
 {
     let bit = left.trailing_zeros();
-    *left &= !(1 << bit);
+    *left &= *left - 1;
     22 - bit as usize
 }
 
@@ -45,13 +47,12 @@ fn is_above(pattern: u32, word: &[u8; 23]) -> bool
 
 // The word less the pattern.
 #[tactic(auto, using(crate::proofs::Walks::none_lowered, crate::proofs::Walks::can_lower, crate::proofs::Walks::all_lowered))]
-fn store_decoded(pattern: u32, word: &[u8; 23], out: &mut [u8])
+fn store_decoded(pattern: u32, word: &[u8; 23], out: &mut [u8; 23])
     requires bits { pattern < 2 ^ 23 }
     requires under { nowhere_above (word_of_bits pattern) word.now ≡ true }
-    requires room { length out.old ≡ 23 }
     ensures { out.new ≡ subtract word.now (word_of_bits pattern) }
 {
-    out.copy_from_slice(word);
+    *out = *word;
     let mut left = pattern;
     while left != 0 {
         let cell = take_last(&mut left);
@@ -59,11 +60,30 @@ fn store_decoded(pattern: u32, word: &[u8; 23], out: &mut [u8])
     }
 }
 
+// Whether sixteen levels, from cell `first` on, are below q.
+fn sixteen_below(q: u8, word: &[u8; 23], first: usize) -> bool
+    requires { first ≤ 7 }
+    ensures { result ≡ all_below q (chunk first 16 word.now) }
+{
+    u8x16::splat(q)
+        .simd_le(u8x16::from_slice(&word[first..]))
+        .to_bitmask()
+        == 0
+}
+
+// Whether all are: two vectors have them, with nine cells in both.
+#[tactic(auto, using(crate::proofs::Levels::both_below))]
+fn are_below(q: usize, word: &[u8; 23]) -> bool
+    requires { q ≤ 64 }
+    ensures { result ≡ all_below q word.now }
+{
+    sixteen_below(q as u8, word, 0) & sixteen_below(q as u8, word, 7)
+}
+
 // Decode a word of levels below q. A cell at 0 refuses it before the buffer is written, so the risen cells are walked over twice.
-fn decode_word(q: usize, word: &[u8; 23], out: &mut [u8]) -> Result<usize, Refusal>
+fn decode_word(q: usize, word: &[u8; 23], out: &mut [u8; 23]) -> Result<usize, Refusal>
     requires even { q % 2 ≡ 0 }
     requires below { all_below q word.now ≡ true }
-    requires room { length out.old ≡ 23 }
     ensures { leaves (answer_of result) out.new ≡ left_by (decoded_word (golay_code q) word.now) out.old }
 {
     let pattern = golay_table::pattern_at(golay_table::syndrome_index(word));
@@ -85,10 +105,10 @@ fn decode_received(q: usize, received: &[u8], out: &mut [u8]) -> Result<usize, R
     let Ok(word) = <&[u8; 23]>::try_from(received) else {
         return Err(Refusal::WrongBuffer);
     };
-    if out.len() != 23 {
+    let Some(out) = out.as_mut_array::<23>() else {
         return Err(Refusal::WrongBuffer);
-    }
-    if !byte_helpers::all_below(q, word) {
+    };
+    if !are_below(q, word) {
         return Err(Refusal::LevelTooLarge);
     }
     decode_word(q, word, out)

@@ -1,15 +1,21 @@
 // The table of the 23-cell binary Golay code: for each index of a syndrome the pattern that has it.
 #![tactic(auto)]
 
-ghost use Rattle.std.specs.Prelude.{◌≡◌, ℕ, ◌<◌, count_ones};
-ghost use Rattle.definitions.specs.Words.{weight};
+ghost use Rattle.std.specs.Prelude.{◌≡◌, true, ℕ, ◌<◌, ◌≤◌, count_ones};
+ghost use Rattle.definitions.specs.Words.{weight, all_below};
 ghost use Rattle.definitions.specs.Codewords.{syndrome};
+ghost use Rattle.golay_table.specs.OddColumns.{odd_columns};
+ghost use Rattle.std.specs.Simd.Lanes.{chunk};
 ghost use Rattle.definitions.specs.Golay.{golay_code, syndrome_of_index, word_of_bits, HasIndex};
 
-// The columns of the 23 cells: of cell j the remainder of x^(23-j), with row 1 in its highest bit.
-const COLUMNS: [u16; 23] = [
-    1393, 1993, 1685, 1595, 1644, 822, 411, 1468, 734, 367, 1478, 739, 1024, 512, 256, 128, 64, 32,
-    16, 8, 4, 2, 1,
+use std::simd::prelude::*;
+
+// The columns of the cells, eight to a row: of cell j the remainder of x^(23-j), with row 1 of the matrix in its highest bit. The last row
+// begins at cell 16, which the row before has too, so that all three have eight: here it counts 0.
+const COLUMNS: [[u16; 8]; 3] = [
+    [1393, 1993, 1685, 1595, 1644, 822, 411, 1468],
+    [734, 367, 1478, 739, 1024, 512, 256, 128],
+    [0, 64, 32, 16, 8, 4, 2, 1],
 ];
 
 // The 2,048 patterns in the order of their syndromes' indices, as numbers of 23 bits: cell j is bit 23 - j.
@@ -194,16 +200,23 @@ pub fn pattern_at(i: usize) -> u32
     PATTERNS[i]
 }
 
-// The index of a word's syndrome: the columns of the cells with an odd level, added modulo 2. By products and not by branches, so that it
-// takes the same steps for each word.
-#[tactic(auto, using(crate::proofs::Index::no_cells, crate::proofs::Index::next_cell, crate::proofs::Index::all_cells))]
+// Of eight cells from `first` on the columns of those with an odd level, and 0 for the others.
+fn odd_columns(word: &[u8; 23], first: usize, columns: [u16; 8]) -> u16x8
+    requires room { first ≤ 15 }
+    requires small { all_below 2048 columns ≡ true }
+    ensures { result ≡ odd_columns (chunk first 8 word.now) columns }
+{
+    let levels: u16x8 = u8x8::from_slice(&word[first..]).cast();
+    (levels & u16x8::splat(1)) * u16x8::from_array(columns)
+}
+
+// The index of a word's syndrome: the columns of the cells with an odd level, added modulo 2.
 pub fn syndrome_index(word: &[u8; 23]) -> usize
     ensures below { result < 2048 }
     ensures index { (q : ℕ) → syndrome (golay_code q) word.now ≡ syndrome_of_index result }
 {
-    let mut index = 0;
-    for i in 0..23 {
-        index ^= COLUMNS[i] * u16::from(word[i] & 1);
-    }
-    usize::from(index)
+    let lanes = odd_columns(word, 0, COLUMNS[0])
+        ^ odd_columns(word, 8, COLUMNS[1])
+        ^ odd_columns(word, 15, COLUMNS[2]);
+    usize::from(lanes.reduce_xor())
 }

@@ -1,0 +1,2 @@
+-- a column that counts where the level is odd
+pub mod OddColumns
