@@ -26,7 +26,7 @@ abbrev pub row : ℕ → List ℕ
 row t = get_or COLUMNS t []
 
 columns : List ℕ
-columns = row 0 ++ (row 1 ++ drop 1 (row 2))
+columns = row 0 ++ drop 9 (row 1)
 
 -- a cell and its number: the number's bits are the column of that cell
 is_column : ℕ × ℕ → Bool
@@ -101,23 +101,18 @@ module _ (e : ℕ) where
   odd_bits (v ∷ vs) (c ∷ cs) =
       omega (arith, bit_of_product c (v % 2) e (omega arith), odd_part (bit_at c e) v (bit_at-lt c e), odd_bits vs cs)
 
--- the lanes: three rows of cells, added
+-- the lanes: two rows of cells, added
 abbrev pub lanes : List ℕ → List ℕ
-lanes y =
-    zip2 bit_xor (zip2 bit_xor (odd_columns (chunk 0 8 y) (row 0)) (odd_columns (chunk 8 8 y) (row 1))) (odd_columns (chunk 15 8 y) (row 2))
+lanes y = zip2 bit_xor (odd_columns (chunk 0 16 y) (row 0)) (odd_columns (chunk 7 16 y) (row 1))
 
 abbrev pub sum_of_lanes : List ℕ → ℕ
 sum_of_lanes y = fold_l bit_xor 0 (lanes y)
 
 pub sum_small : (y : List ℕ) → sum_of_lanes y < 2 ^ 11
 sum_small y =
-    let p = odd_columns (chunk 0 8 y) (row 0) in
-    let q = odd_columns (chunk 8 8 y) (row 1) in
-    let r = odd_columns (chunk 15 8 y) (row 2) in
     fold_small (lanes y) 0 (omega arith)
-    (xor_small (zip2 bit_xor p q) r
-    (xor_small p q (odd_small (chunk 0 8 y) (row 0) (below_each 2048 (row 0) tt)) (odd_small (chunk 8 8 y) (row 1) (below_each 2048 (row 1) tt)))
-    (odd_small (chunk 15 8 y) (row 2) (below_each 2048 (row 2) tt)))
+    (xor_small (odd_columns (chunk 0 16 y) (row 0)) (odd_columns (chunk 7 16 y) (row 1))
+    (odd_small (chunk 0 16 y) (row 0) (below_each 2048 (row 0) tt)) (odd_small (chunk 7 16 y) (row 1) (below_each 2048 (row 1) tt)))
 
 -- the word whose cell j is f j
 module _ (f : ℕ → ℕ) where
@@ -130,13 +125,13 @@ module _ (f : ℕ → ℕ) where
   index_bit : (e : ℕ) → bit_at (sum_of_lanes cells) e ≡ sum_to 23 (λ j. bit_at (at columns j) e * f j) % 2
   unfolding columns
   index_bit e =
-      let p = odd_columns (chunk 0 8 cells) (row 0) in
-      let q = odd_columns (chunk 8 8 cells) (row 1) in
-      let r = odd_columns (chunk 15 8 cells) (row 2) in
-      let z : bit_at 0 e * f 15 ≡ 0 = ap (λ (b : ℕ). b * f 15) (bit_at-zero e) ∙ zero-mul (f 15) in
       fold_bit e (lanes cells) 0
-      ∙ omega (arith, z, bit_at-zero e, xor_bits e (zip2 bit_xor p q) r refl, xor_bits e p q refl,
-      odd_bits e (chunk 0 8 cells) (row 0), odd_bits e (chunk 8 8 cells) (row 1), odd_bits e (chunk 15 8 cells) (row 2))
+      ∙ omega (arith, bit_at-zero e, xor_bits e (odd_columns (chunk 0 16 cells) (row 0)) (odd_columns (chunk 7 16 cells) (row 1)) refl,
+      odd_bits e (chunk 0 16 cells) (row 0), odd_bits e (chunk 7 16 cells) (row 1), none 7, none 8, none 9, none 10, none 11, none 12, none 13,
+      none 14, none 15)
+    where
+      none : (j : ℕ) → bit_at 0 e * f j ≡ 0
+      none j = ap (λ (b : ℕ). b * f j) (bit_at-zero e) ∙ zero-mul (f j)
 
   index_right : (q : ℕ) → syndrome (golay_code q) cells ≡ syndrome_of_index (sum_of_lanes cells)
   unfolding syndrome syndrome_of_index

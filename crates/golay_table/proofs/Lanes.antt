@@ -1,4 +1,4 @@
--- Eight cells of a word as the lanes of a vector.
+-- Sixteen cells of a word as the lanes of a vector.
 use Rattle.std.proofs.Common.{◌≡◌, ℕ, suc, zero, ◌+◌, ◌*◌, ◌-◌, ◌%◌, ◌^◌, ◌<◌, ◌≤◌, List, [], ◌∷◌, map, length, take, drop, ap₂, ◌∙◌, ap, refl, arith, replicate}
 use native.Mathlib.Nat.{mul_comm, mod-eq_of_lt}
 use Rattle.std.specs.Int.Bits.{bit_and}
@@ -8,11 +8,11 @@ use Rattle.std.proofs.lemmas.List.{take-take}
 use Rattle.definitions.specs.Words.{EachCell}
 use Rattle.golay_table.specs.OddColumns.{odd_columns}
 
--- each level taken through k, then through g with 1, then through f with a column
-module _ (f g : ℕ → ℕ → ℕ) (k : ℕ → ℕ) (same : (v c : ℕ) → c < 2048 → f (g (k v) 1) c ≡ c * (v % 2)) where
+-- each level taken through g with 1, then through k, then through f with a column
+module _ (f g : ℕ → ℕ → ℕ) (k : ℕ → ℕ) (same : (v c : ℕ) → c < 2048 → f (k (g v 1)) c ≡ c * (v % 2)) where
   pub odd_lanes :
       (vs cs : List ℕ) (n : ℕ) → length vs ≡ n → length cs ≡ n → EachCell (λ c. c < 2048) cs
-      → zip2 f (zip2 g (map k vs) (replicate n 1)) cs ≡ odd_columns vs cs
+      → zip2 f (map k (zip2 g vs (replicate n 1))) cs ≡ odd_columns vs cs
   odd_lanes [] cs n l m s = refl
   odd_lanes (v ∷ vs) [] n l m s = absurd (omega arith)
   odd_lanes (v ∷ vs) (c ∷ cs) zero l m s = absurd (omega arith)
@@ -24,5 +24,5 @@ odd_product v c h = rw (and_mask v 1, mul_comm (v % 2 ^ 1) c) (mod-eq_of_lt (sma
     small : (b : ℕ) → b < 2 → c * b < 2 ^ 16
     small b l = grind arith
 
-pub chunk_part : (first : ℕ) (word : List ℕ) → first ≤ 15 → chunk 0 8 (take (23 - first) (drop first word)) ≡ chunk first 8 word
-chunk_part first word h = take-take 8 (23 - first) (drop first word) (omega arith)
+pub chunk_part : (first : ℕ) (word : List ℕ) → first ≤ 7 → chunk 0 16 (take (23 - first) (drop first word)) ≡ chunk first 16 word
+chunk_part first word h = take-take 16 (23 - first) (drop first word) (omega arith)

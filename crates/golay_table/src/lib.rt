@@ -10,12 +10,11 @@ ghost use Rattle.definitions.specs.Golay.{golay_code, syndrome_of_index, word_of
 
 use std::simd::prelude::*;
 
-// The columns of the cells, eight to a row: of cell j the remainder of x^(23-j), with row 1 of the matrix in its highest bit. The last row
-// begins at cell 16, which the row before has too, so that all three have eight: here it counts 0.
-const COLUMNS: [[u16; 8]; 3] = [
-    [1393, 1993, 1685, 1595, 1644, 822, 411, 1468],
-    [734, 367, 1478, 739, 1024, 512, 256, 128],
-    [0, 64, 32, 16, 8, 4, 2, 1],
+// The columns of the cells: of cell j the remainder of x^(23-j), with row 1 of the matrix in its highest bit. Sixteen to a row; the second
+// row begins at cell 8, and has 0 for the nine cells that the first has too.
+const COLUMNS: [[u16; 16]; 2] = [
+    [1393, 1993, 1685, 1595, 1644, 822, 411, 1468, 734, 367, 1478, 739, 1024, 512, 256, 128],
+    [0, 0, 0, 0, 0, 0, 0, 0, 0, 64, 32, 16, 8, 4, 2, 1],
 ];
 
 // The 2,048 patterns in the order of their syndromes' indices, as numbers of 23 bits: cell j is bit 23 - j.
@@ -200,14 +199,14 @@ pub fn pattern_at(i: usize) -> u32
     PATTERNS[i]
 }
 
-// Of eight cells from `first` on the columns of those with an odd level, and 0 for the others.
-fn odd_columns(word: &[u8; 23], first: usize, columns: [u16; 8]) -> u16x8
-    requires room { first ≤ 15 }
+// Of sixteen cells from `first` on the columns of those with an odd level, and 0 for the others.
+fn odd_columns(word: &[u8; 23], first: usize, columns: [u16; 16]) -> u16x16
+    requires room { first ≤ 7 }
     requires small { all_below 2048 columns ≡ true }
-    ensures { result ≡ odd_columns (chunk first 8 word.now) columns }
+    ensures { result ≡ odd_columns (chunk first 16 word.now) columns }
 {
-    let levels: u16x8 = u8x8::from_slice(&word[first..]).cast();
-    (levels & u16x8::splat(1)) * u16x8::from_array(columns)
+    let odd = u8x16::from_slice(&word[first..]) & u8x16::splat(1);
+    odd.cast::<u16>() * u16x16::from_array(columns)
 }
 
 // The index of a word's syndrome: the columns of the cells with an odd level, added modulo 2.
@@ -215,8 +214,6 @@ pub fn syndrome_index(word: &[u8; 23]) -> usize
     ensures below { result < 2048 }
     ensures index { (q : ℕ) → syndrome (golay_code q) word.now ≡ syndrome_of_index result }
 {
-    let lanes = odd_columns(word, 0, COLUMNS[0])
-        ^ odd_columns(word, 8, COLUMNS[1])
-        ^ odd_columns(word, 15, COLUMNS[2]);
+    let lanes = odd_columns(word, 0, COLUMNS[0]) ^ odd_columns(word, 7, COLUMNS[1]);
     usize::from(lanes.reduce_xor())
 }

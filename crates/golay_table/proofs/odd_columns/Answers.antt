@@ -10,5 +10,5 @@ pub returns : goal.returns
 returns c =
     let long : length c.args.word.now ≡ 23 = omega arith in
     rw (chunk_part c.args.first c.args.word.now c.requires.room)
-    (odd_lanes _ _ _ odd_product _ c.args.columns 8 (length-chunk c.args.first 8 c.args.word.now (omega arith)) (omega arith)
+    (odd_lanes _ _ _ odd_product _ c.args.columns 16 (length-chunk c.args.first 16 c.args.word.now (omega arith)) (omega arith)
     (below_each 2048 c.args.columns (subst T (sym c.requires.small) tt)))
