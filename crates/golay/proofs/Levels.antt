@@ -1,6 +1,6 @@
 -- The test of the levels, in two vectors.
-use Rattle.std.proofs.Common.{◌≡◌, ℕ, zero, suc, ◌+◌, ◌*◌, ◌-◌, ◌%◌, ◌^◌, ◌<◌, ◌≤◌, Bool, true, false, ◌&&◌, cond, leb, ltb, nat_eq, List, [], ◌∷◌, map, length}
-use Rattle.std.proofs.Common.{replicate, take, drop, refl, sym, ap, ap₂, ◌∙◌, subst, arith, w8, inl, inr, ◌⊎◌}
+use Rattle.std.proofs.Common.{◌≡◌, ℕ, zero, suc, ◌+◌, ◌*◌, ◌-◌, ◌%◌, ◌^◌, ◌<◌, ◌≤◌, ◌&&◌, cond, leb, ltb, nat_eq, List, [], ◌∷◌, map, length}
+use Rattle.std.proofs.Common.{replicate, take, drop, refl, sym, ap, ◌∙◌, subst, arith, w8, inl, inr, ◌⊎◌}
 use lib.Dec.{T}
 use lib.Lanes.{mask_l, top}
 use borrow.Author.Tests.{le-leb, lt-ltb, le-ltb, ne_eqb}
@@ -8,7 +8,7 @@ use Rattle.std.specs.Simd.Lanes.{zip2, chunk}
 use Rattle.std.proofs.lemmas.Bool.{cases_lt, false_from_ne_true, leb-true}
 use Rattle.std.proofs.lemmas.List.{take-take, length-map}
 use Rattle.std.proofs.lemmas.Simd.{tops_compared, zip2_splat_left, mask_l-mod, length-chunk, get_or-chunk}
-use Rattle.definitions.specs.Words.{at, all_below, EachCell}
+use Rattle.definitions.specs.Words.{at, all_below}
 use Rattle.definitions.proofs.Tests.{and_left, and_right, and_both, below_each, each_below, passes_or_not}
 use Rattle.word_laws.proofs.Cells.{each_at, at_each, each_take, each-drop}
 use Rattle.code_theorems.proofs.Refusals.{is_true}

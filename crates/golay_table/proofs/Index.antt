@@ -1,19 +1,19 @@
 -- The columns of the cells, and what their sum modulo 2 says of a word's syndrome.
-use Rattle.std.proofs.Common.{◌≡◌, ℕ, suc, zero, ◌+◌, ◌*◌, ◌-◌, ◌%◌, ◌^◌, ◌<◌, ◌≤◌, Bool, true, ◌&&◌, ltb, List, [], ◌∷◌, ◌++◌, length, map, drop, get_or}
+use Rattle.std.proofs.Common.{◌≡◌, ℕ, suc, zero, ◌+◌, ◌*◌, ◌-◌, ◌%◌, ◌^◌, ◌<◌, Bool, true, List, [], ◌∷◌, ◌++◌, length, map, drop, get_or}
 use Rattle.std.proofs.Common.{subst, refl, sym, ap, ◌∙◌, arith}
 use native.Mathlib.Nat.{mul-zero, mul-one, zero-mul, zero-add}
-use lib.Dec.{T, ltb→lt}
+use lib.Dec.{T}
 use lib.Seq.{ext_get_or}
 use Rattle.std.specs.Int.{bit_at}
-use Rattle.std.specs.Int.Bits.{bit_and, bit_xor}
+use Rattle.std.specs.Int.Bits.{bit_xor}
 use Rattle.std.specs.List.{list_all, enumerate_from}
 use Rattle.std.specs.Simd.Lanes.{zip2, chunk, fold_l, sum_l}
-use Rattle.std.proofs.lemmas.Nat.{and_mask, xor_lt}
+use Rattle.std.proofs.lemmas.Nat.{xor_lt}
 use Rattle.std.proofs.lemmas.Nat.Bits.{bit_at_xor, bit_at-zero, bit_at-lt}
 use Rattle.definitions.specs.Words.{at, sum_to, up_from, same_word, EachCell}
 use Rattle.definitions.specs.Codewords.{syndrome, syndrome_entry}
 use Rattle.definitions.specs.Golay.{golay_code, golay_matrix, syndrome_of_index}
-use Rattle.definitions.proofs.Tests.{and_left, and_right, same_eq, below_each}
+use Rattle.definitions.proofs.Tests.{same_eq, below_each}
 use Rattle.word_laws.proofs.Cells.{map_same, same_map, up_from_bounds, up_from_mem, at-up_from, sum_same}
 use Rattle.word_laws.proofs.Lists.{entry_passes}
 use Rattle.syndrome.specs.Columns.{column}
@@ -126,9 +126,22 @@ module _ (f : ℕ → ℕ) where
   unfolding columns
   index_bit e =
       fold_bit e (lanes cells) 0
-      ∙ omega (arith, bit_at-zero e, xor_bits e (odd_columns (chunk 0 16 cells) (row 0)) (odd_columns (chunk 7 16 cells) (row 1)) refl,
-      odd_bits e (chunk 0 16 cells) (row 0), odd_bits e (chunk 7 16 cells) (row 1), none 7, none 8, none 9, none 10, none 11, none 12, none 13,
-      none 14, none 15)
+      ∙ omega (
+        arith,
+        bit_at-zero e,
+        xor_bits e (odd_columns (chunk 0 16 cells) (row 0)) (odd_columns (chunk 7 16 cells) (row 1)) refl,
+        odd_bits e (chunk 0 16 cells) (row 0),
+        odd_bits e (chunk 7 16 cells) (row 1),
+        none 7,
+        none 8,
+        none 9,
+        none 10,
+        none 11,
+        none 12,
+        none 13,
+        none 14,
+        none 15,
+      )
     where
       none : (j : ℕ) → bit_at 0 e * f j ≡ 0
       none j = ap (λ (b : ℕ). b * f j) (bit_at-zero e) ∙ zero-mul (f j)

@@ -1,5 +1,5 @@
 -- Sixteen cells of a word as the lanes of a vector.
-use Rattle.std.proofs.Common.{◌≡◌, ℕ, suc, zero, ◌+◌, ◌*◌, ◌-◌, ◌%◌, ◌^◌, ◌<◌, ◌≤◌, List, [], ◌∷◌, map, length, take, drop, ap₂, ◌∙◌, ap, refl, arith, replicate}
+use Rattle.std.proofs.Common.{◌≡◌, ℕ, suc, zero, ◌*◌, ◌-◌, ◌%◌, ◌^◌, ◌<◌, ◌≤◌, List, [], ◌∷◌, map, length, take, drop, ap₂, refl, arith, replicate}
 use native.Mathlib.Nat.{mul_comm, mod-eq_of_lt}
 use Rattle.std.specs.Int.Bits.{bit_and}
 use Rattle.std.specs.Simd.Lanes.{zip2, chunk}

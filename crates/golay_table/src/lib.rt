@@ -13,7 +13,9 @@ use std::simd::prelude::*;
 // The columns of the cells: of cell j the remainder of x^(23-j), with row 1 of the matrix in its highest bit. Sixteen to a row; the second
 // row begins at cell 8, and has 0 for the nine cells that the first has too.
 const COLUMNS: [[u16; 16]; 2] = [
-    [1393, 1993, 1685, 1595, 1644, 822, 411, 1468, 734, 367, 1478, 739, 1024, 512, 256, 128],
+    [
+        1393, 1993, 1685, 1595, 1644, 822, 411, 1468, 734, 367, 1478, 739, 1024, 512, 256, 128,
+    ],
     [0, 0, 0, 0, 0, 0, 0, 0, 0, 64, 32, 16, 8, 4, 2, 1],
 ];
 

@@ -1,8 +1,7 @@
-use Rattle.std.proofs.Common.{◌≡◌, length, subst, sym, ap, ◌∙◌, arith}
+use Rattle.std.proofs.Common.{◌≡◌, length, subst, sym, arith}
 use lib.Dec.{T}
 use Rattle.std.proofs.lemmas.Simd.{length-chunk}
 use Rattle.definitions.proofs.Tests.{below_each}
-use Rattle.golay_table.specs.OddColumns.{odd_columns}
 use Rattle.golay_table.proofs.Lanes.{odd_lanes, odd_product, chunk_part}
 use Rattle.golay_table.proofs.odd_columns.Goals as goal
 

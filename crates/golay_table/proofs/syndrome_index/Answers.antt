@@ -1,6 +1,4 @@
-use Rattle.std.proofs.Common.{◌≡◌, ℕ, ◌<◌, length, subst, sym, arith}
-use Rattle.definitions.specs.Codewords.{syndrome}
-use Rattle.definitions.specs.Golay.{golay_code, syndrome_of_index}
+use Rattle.std.proofs.Common.{◌≡◌, length, arith}
 use Rattle.golay_table.proofs.Index.{sum_small, sum_right}
 use Rattle.golay_table.proofs.syndrome_index.Goals as goal
 
