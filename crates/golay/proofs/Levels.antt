@@ -3,9 +3,9 @@ use Rattle.std.proofs.Common.{◌≡◌, ℕ, zero, suc, ◌+◌, ◌*◌, ◌-�
 use Rattle.std.proofs.Common.{replicate, take, drop, refl, sym, ap, ◌∙◌, subst, arith, w8, inl, inr, ◌⊎◌}
 use lib.Dec.{T}
 use lib.Lanes.{mask_l, top}
-use borrow.Author.Tests.{le-leb, lt-ltb, le-ltb, ne_eqb}
+use borrow.Author.Tests.{le-leb, lt-leb, lt-ltb, le-ltb, ne_eqb}
 use Rattle.std.specs.Simd.Lanes.{zip2, chunk}
-use Rattle.std.proofs.lemmas.Bool.{cases_lt, false_from_ne_true, leb-true}
+use Rattle.std.proofs.lemmas.Bool.{cases_lt, false_from_ne_true}
 use Rattle.std.proofs.lemmas.List.{take-take, length-map}
 use Rattle.std.proofs.lemmas.Simd.{tops_compared, zip2_splat_left, mask_l-mod, length-chunk, get_or-chunk}
 use Rattle.definitions.specs.Words.{at, all_below}
@@ -24,7 +24,7 @@ no_lane q (x ∷ xs) = step (cases_lt x q) (no_lane q xs)
   where
     step : (x < q) ⊎ (q ≤ x) → nat_eq (mask_l (map (leb q) xs)) 0 ≡ all_below q xs
         → nat_eq (cond (leb q x) 1 0 + 2 * mask_l (map (leb q) xs)) 0 ≡ (ltb x q && all_below q xs)
-    step (inl l) h = rw (false_from_ne_true (leb q x) (λ t. omega (arith, leb-true q x t)), lt-ltb x q l) (twice (mask_l (map (leb q) xs)) ∙ h)
+    step (inl l) h = rw (lt-leb q x l, lt-ltb x q l) (twice (mask_l (map (leb q) xs)) ∙ h)
     step (inr g) h = rw (le-leb q x g, le-ltb x q g) (ne_eqb (1 + 2 * mask_l (map (leb q) xs)) 0 (λ e. omega arith))
 
 -- the lanes of sixteen cells from `first` on

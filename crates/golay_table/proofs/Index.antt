@@ -1,6 +1,6 @@
 -- The columns of the cells, and what their sum modulo 2 says of a word's syndrome.
 use Rattle.std.proofs.Common.{◌≡◌, ℕ, suc, zero, ◌+◌, ◌*◌, ◌-◌, ◌%◌, ◌^◌, ◌<◌, Bool, true, List, [], ◌∷◌, ◌++◌, length, map, drop, get_or}
-use Rattle.std.proofs.Common.{subst, refl, sym, ap, ◌∙◌, arith}
+use Rattle.std.proofs.Common.{replicate, subst, refl, sym, ap, ◌∙◌, arith}
 use native.Mathlib.Nat.{mul-zero, mul-one, zero-mul, zero-add}
 use lib.Dec.{T}
 use lib.Seq.{ext_get_or}
@@ -101,6 +101,12 @@ module _ (e : ℕ) where
   odd_bits (v ∷ vs) (c ∷ cs) =
       omega (arith, bit_of_product c (v % 2) e (omega arith), odd_part (bit_at c e) v (bit_at-lt c e), odd_bits vs cs)
 
+  -- columns of 0 in front count nothing
+  without_zeros : (n : ℕ) (vs cs : List ℕ) → part vs (replicate n 0 ++ cs) ≡ part (drop n vs) cs
+  without_zeros zero vs cs = refl
+  without_zeros (suc n) [] cs = refl
+  without_zeros (suc n) (v ∷ vs) cs = omega (arith, without_zeros n vs cs, ap (λ (b : ℕ). b * v) (bit_at-zero e), zero-mul v)
+
 -- the lanes: two rows of cells, added
 abbrev pub lanes : List ℕ → List ℕ
 lanes y = zip2 bit_xor (odd_columns (chunk 0 16 y) (row 0)) (odd_columns (chunk 7 16 y) (row 1))
@@ -132,19 +138,8 @@ module _ (f : ℕ → ℕ) where
         xor_bits e (odd_columns (chunk 0 16 cells) (row 0)) (odd_columns (chunk 7 16 cells) (row 1)) refl,
         odd_bits e (chunk 0 16 cells) (row 0),
         odd_bits e (chunk 7 16 cells) (row 1),
-        none 7,
-        none 8,
-        none 9,
-        none 10,
-        none 11,
-        none 12,
-        none 13,
-        none 14,
-        none 15,
+        without_zeros e 9 (chunk 7 16 cells) (drop 9 (row 1)),
       )
-    where
-      none : (j : ℕ) → bit_at 0 e * f j ≡ 0
-      none j = ap (λ (b : ℕ). b * f j) (bit_at-zero e) ∙ zero-mul (f j)
 
   index_right : (q : ℕ) → syndrome (golay_code q) cells ≡ syndrome_of_index (sum_of_lanes cells)
   unfolding syndrome syndrome_of_index
