@@ -20,11 +20,10 @@ use Rattle.definitions.specs.Codewords.{syndrome_entry, syndrome, ceiling, is_co
 use Rattle.definitions.specs.Decoding.{fits, same_syndrome}
 use Rattle.definitions.proofs.Tests.{and_left, and_right, and_both, eq_test, same_eq, below_each, each_below, above-each, each-above}
 use Rattle.word_laws.proofs.Cells.{at-past, at-map2, length-map2, each_at, at_each, pair_at, at_pair, up_from_bounds, up_from_mem, same_map, map-zero}
-use Rattle.word_laws.proofs.Remainders.{cancel}
 use Rattle.candidate_patterns.specs.declared.Risen.{Risen}
 use Rattle.candidate_patterns.specs.Candidates.{magnitude_at, word_of, no_rise, rise_at}
 use Rattle.candidate_patterns.proofs.Choices.{word_at, word-past, length-word, chosen_or_none}
-use Rattle.code_theorems.proofs.Syndromes.{syndrome-below, syndrome-add}
+use Rattle.code_theorems.proofs.Syndromes.{zero_where_same}
 
 pub is_true : (b : Bool) → T b → b ≡ true
 is_true true h = refl
@@ -115,9 +114,7 @@ module _ (p : Code) (y e : List ℕ) (ly : length y ≡ p.n) (le : length e ≡ 
           step (no b) = omega (arith, at-past y j (omega arith), at-past s j (omega (arith, long)), at-past e j (omega arith))
 
       nothing : (k : ℕ) → k < p.r → syndrome_entry p s k ≡ 0
-      nothing k b =
-          cancel p.M (syndrome_entry p e k) (syndrome_entry p s k) (syndrome-below p m e k) (syndrome-below p m s k)
-          (same_each p y e same k b ∙ syndrome-add p y s e (λ j. ap (λ (v : ℕ). v % p.M) (sum j)) k)
+      nothing k b = zero_where_same p m y s e (λ j. ap (λ (v : ℕ). v % p.M) (sum j)) k (same_each p y e same k b)
 
 -- a pattern is above the word at cell i
 abbrev pub is_above_at : List ℕ → Risen → ℕ → Bool

@@ -72,22 +72,21 @@ module _ (p : Code) (y : List ℕ) (long : length y ≡ p.n) where
   unfolding fits
   fits-codeword e h = test_codeword p (subtract y e) (and_right (same_syndrome p y e && nowhere_above e y) (is_codeword p (subtract y e)) h)
 
-  fits-distance : (e : List ℕ) → Pattern p e → T (fits p y e) → weight e ≡ distance (subtract y e) y
-  fits-distance e hp h =
-      ap weight (sym (subtract-back y e (fits-above e h))) ∙ subtract-weight p.l y (subtract y e) (subtract_near p.l y e (fits-above e h) hp.each)
+  -- a pattern nowhere above the word
+  module _ (e : List ℕ) (hp : Pattern p e) (under : EachPair (λ a b. b ≤ a) y e) where
+    pub pattern-distance : weight e ≡ distance (subtract y e) y
+    pattern-distance = ap weight (sym (subtract-back y e under)) ∙ subtract-weight p.l y (subtract y e) (subtract_near p.l y e under hp.each)
 
-  fits-reach : (e : List ℕ) → Pattern p e → T (fits p y e) → Reach p y (subtract y e)
-  fits-reach e hp h = record {
-    cells = subtract_near p.l y e (fits-above e h) hp.each;
-    few = subst (λ (k : ℕ). k ≤ p.t) (fits-distance e hp h) hp.few;
-  }
+    pub pattern-reach : Reach p y (subtract y e)
+    pattern-reach = record { cells = subtract_near p.l y e under hp.each; few = subst (λ (k : ℕ). k ≤ p.t) pattern-distance hp.few }
 
   -- what is found is a codeword within reach
   found_within : (e : List ℕ) → first (fits p y) (patterns_of p) ≡ some e → WithinReach (of_code p) y (subtract y e) × (weight e ≡ distance (subtract y e) y)
   found_within e q =
       let (m, f) = first_some (fits p y) (patterns_of p) e q in
       let hp = in_pattern p e m in
-      ((fits-codeword e f, fits-reach e hp f), fits-distance e hp f)
+      let under = fits-above e f in
+      ((fits-codeword e f, pattern-reach e hp under), pattern-distance e hp under)
 
   -- and what is given back was found
   pub given-found : (k : ℕ) (c : List ℕ) → decode p y ≡ given (k, c)

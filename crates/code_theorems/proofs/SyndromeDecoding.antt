@@ -4,20 +4,19 @@ use mathlib.Core.List.{List}
 use Prim.Native.Nat.{ℕ, ◌+◌, ◌*◌, ◌-◌, ◌%◌, ◌≤◌, ◌<◌}
 use native.Mathlib.Omega.{arith}
 use lib.ListN.{length}
-use Rattle.definitions.specs.Words.{at, subtract, weight, distance, EachCell, EachPair}
+use Rattle.definitions.specs.Words.{at, subtract, weight, EachCell, EachPair}
 use Rattle.definitions.specs.Answers.{given, refused}
 use Rattle.definitions.specs.Codes.{Code}
-use Rattle.definitions.specs.Codewords.{syndrome, syndrome_entry}
+use Rattle.definitions.specs.Codewords.{syndrome}
 use Rattle.definitions.specs.Patterns.{Pattern}
 use Rattle.definitions.specs.Acceptance.{Accepted}
 use Rattle.definitions.specs.Decoding.{decode}
 use Rattle.definitions.specs.Demands.{of_code, WithinReach}
 use Rattle.word_laws.proofs.Cells.{each_at, at_each, length-map2}
-use Rattle.word_laws.proofs.Remainders.{cancel}
-use Rattle.word_laws.proofs.Subtraction.{Near, subtract_near, subtract-back, subtract-above, subtract-sum, subtract-weight}
-use Rattle.code_theorems.proofs.Syndromes.{syndrome-add, syndrome-below, syndrome-entries}
+use Rattle.word_laws.proofs.Subtraction.{subtract_near, subtract-back, subtract-above, subtract-sum}
+use Rattle.code_theorems.proofs.Syndromes.{zero_where_same, syndrome-entries}
 use Rattle.code_theorems.proofs.Divides.{null_space}
-use Rattle.code_theorems.proofs.Decoding.{reach-pattern, reach-syndrome, decode-back, decode-other}
+use Rattle.code_theorems.proofs.Decoding.{reach-pattern, reach-syndrome, pattern-distance, pattern-reach, decode-back, decode-other}
 
 module _ (p : Code) (pos : 0 < p.M) (s : ℕ) (divides : p.q ≡ p.M * s) (acc : Accepted p)
     (y : List ℕ) (long : length y ≡ p.n) (levels : EachCell (λ v. v < p.q) y)
@@ -34,35 +33,24 @@ module _ (p : Code) (pos : 0 < p.M) (s : ℕ) (divides : p.q ≡ p.M * s) (acc :
     unfolding c
     long-c = length-map2 (λ a b. a - b) y e (omega (arith, is_pattern.long)) ∙ long
 
-    near : Near p.l y c
-    unfolding c
-    near = subtract_near p.l y e under is_pattern.each
-
-    back : subtract y c ≡ e
-    unfolding c
-    back = subtract-back y e under
-
     sum : (j : ℕ) → at y j ≡ at c j + at e j
-    sum j = subtract-sum p.l y c near j ∙ ap (λ z. at c j + at z j) back
-
-    apart : weight e ≡ distance c y
-    apart = ap weight (sym back) ∙ subtract-weight p.l y c near
+    unfolding c
+    sum j = subtract-sum p.l y c (subtract_near p.l y e under is_pattern.each) j ∙ ap (λ z. at c j + at z j) (subtract-back y e under)
 
     within : WithinReach (of_code p) y c
+    unfolding c
     within = (
       (null_space p pos s divides c).1 (record {
         long = long-c;
         levels = at_each (λ v. v < p.q) c λ j g. let l = each_at (λ v. v < p.q) y levels j (omega (arith, long-c)) in omega (arith, sum j);
-        zero = λ k h.
-            cancel p.M (syndrome_entry p e k) (syndrome_entry p c k) (syndrome-below p pos e k) (syndrome-below p pos c k)
-            (syndrome-entries p e y same k h ∙ syndrome-add p y c e (λ j. ap (λ (v : ℕ). v % p.M) (sum j)) k);
+        zero = λ k h. zero_where_same p pos y c e (λ j. ap (λ (v : ℕ). v % p.M) (sum j)) k (syndrome-entries p e y same k h);
       }),
-      record { cells = near; few = subst (λ (k : ℕ). k ≤ p.t) apart is_pattern.few },
+      pattern-reach p y long e is_pattern under,
     )
 
     pub decode-under : decode p y ≡ given (weight e, subtract y e)
     unfolding c
-    decode-under = decode-back p y long acc c within ∙ ap (λ (k : ℕ). given (k, c)) (sym apart)
+    decode-under = decode-back p y long acc c within ∙ ap (λ (k : ℕ). given (k, c)) (sym (pattern-distance p y long e is_pattern under))
 
   pub decode-above : (Under → ⊥) → decode p y ≡ refused 11
   decode-above n = decode-other p y long λ d h.

@@ -8,7 +8,7 @@ use Rattle.definitions.specs.Words.{at, sum_to, up_from}
 use Rattle.definitions.specs.Codes.{Code, data_cells}
 use Rattle.definitions.specs.Codewords.{syndrome_entry, syndrome}
 use Rattle.word_laws.proofs.Cells.{up_from_bounds, up_from_mem, map_same, same_map}
-use Rattle.word_laws.proofs.Remainders.{regroup, cong_add, cong_mul, sum-add}
+use Rattle.word_laws.proofs.Remainders.{regroup, cong_add, cong_mul, sum-add, cancel}
 
 -- level by level, y is c and e together modulo M
 abbrev pub Together : ℕ → List ℕ → List ℕ → List ℕ → Type 0
@@ -54,6 +54,12 @@ module _ (p : Code) where
   syndrome-zero y c e tog k z =
       sym (syndrome-add p y c e tog k ∙ ap (λ (u : ℕ). (u + syndrome_entry p e k) % p.M) z ∙ ap (λ (u : ℕ). u % p.M)
       (zero-add (syndrome_entry p e k)) ∙ syndrome_mod e k)
+
+  -- and where e's entry is y's, c's is 0
+  pub zero_where_same :
+      0 < p.M → (y c e : List ℕ) → Together p.M y c e → (k : ℕ) → syndrome_entry p e k ≡ syndrome_entry p y k → syndrome_entry p c k ≡ 0
+  zero_where_same pos y c e tog k same =
+      cancel p.M (syndrome_entry p e k) (syndrome_entry p c k) (syndrome-below pos e k) (syndrome-below pos c k) (same ∙ syndrome-add p y c e tog k)
 
   -- as a list and entry by entry
   pub entries-syndrome : (x y : List ℕ) → ((k : ℕ) → k < p.r → syndrome_entry p x k ≡ syndrome_entry p y k) → syndrome p x ≡ syndrome p y

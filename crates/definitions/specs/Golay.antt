@@ -37,19 +37,19 @@ golay_code q = record { n = 23; r = 11; q = q; M = 2; l = 1; t = 3; A = golay_ma
 abbrev pub golay_body : ℕ → List ℕ
 golay_body q = 23 ∷ 11 ∷ q ∷ 2 ∷ 1 ∷ 3 ∷ golay_matrix
 
--- the syndrome that has index i: entry 1 has weight 1,024 in the index, entry 11 weight 1
+-- the syndrome that has index i: entry 1 has place value 1,024 in the index, entry 11 place value 1
 unfoldable pub syndrome_of_index : ℕ → List ℕ
 syndrome_of_index i = map (λ k. bit_at i (10 - k)) (up_from 0 11)
 
 -- the word that a number of 23 bits stands for: cell j is bit 23 - j
 unfoldable pub word_of_bits : ℕ → List ℕ
-word_of_bits x = map (λ i. bit_at x (22 - i)) (up_from 0 23)
+word_of_bits b = map (λ i. bit_at b (22 - i)) (up_from 0 23)
 
--- the rule of the table, at entry i: x is a number of 23 bits, and its word is a pattern whose syndrome has index i
-pub record HasIndex (i x : ℕ) : Type 0 where
-  pub bits : x < 2 ^ 23
-  pub is_pattern : (q : ℕ) → Pattern (golay_code q) (word_of_bits x)
-  pub index : (q : ℕ) → syndrome (golay_code q) (word_of_bits x) ≡ syndrome_of_index i
+-- the rule of the table, at entry i: b is a number of 23 bits, and its word is a pattern whose syndrome has index i
+pub record HasIndex (i b : ℕ) : Type 0 where
+  pub bits : b < 2 ^ 23
+  pub is_pattern : (q : ℕ) → Pattern (golay_code q) (word_of_bits b)
+  pub index : (q : ℕ) → syndrome (golay_code q) (word_of_bits b) ≡ syndrome_of_index i
 
 -- Decoding a received word of this code, of q levels: 2 for an odd q or one outside 2 to 64, then 8, 10 and 11 as decoding with a description
 -- has them. What is given is the count

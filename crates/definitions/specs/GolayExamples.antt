@@ -5,7 +5,7 @@ use Rattle.definitions.specs.Examples.{Example, decodes_golay, zeros, back, decl
 
 unfoldable pub golay_words : List Example
 golay_words =
-    -- no, one and three risen cells; then a pattern that is above the word, since its only pattern has a cell that was read at 0
+    -- no, one and three risen cells; then a word that its one pattern is above: cells that it raises were read at 0
     decodes_golay 8 (zeros 23) (back 0 (zeros 23))
     ∷ decodes_golay 8 (zeros 22 ++ 1 ∷ []) (back 1 (zeros 23))
     ∷ decodes_golay 64 (1 ∷ 1 ∷ (zeros 20 ++ 1 ∷ [])) (back 3 (zeros 23))

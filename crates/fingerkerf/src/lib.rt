@@ -65,7 +65,7 @@ pub fn levels_decode(body: &[u8], word: &[u8], out: &mut [u8]) -> Reading
     Reading::from(codec::decode(body, word, out))
 }
 
-// Read a word of the 23-cell Golay code of q levels by the table of its patterns: no description is taken, and none is tried.
+// Read a word of the 23-cell Golay code of q levels by the table of its patterns: no description is taken, and no pattern is tried.
 pub fn levels_decode_golay(q: usize, word: &[u8], out: &mut [u8]) -> Reading
     ensures numbers { ReadNumbered (decode_golay q word.now out.old).answer result }
     ensures buffer { out.new ≡ (decode_golay q word.now out.old).out }

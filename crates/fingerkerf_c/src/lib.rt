@@ -69,7 +69,7 @@ pub extern "C" fn levels_decode(body: &[u8], word: &[u8], out: &mut [u8]) -> Rea
     fingerkerf::levels_decode(body, word, out)
 }
 
-// Read a word of the 23-cell Golay code of q levels by the table of its patterns: no description is taken, and none is tried.
+// Read a word of the 23-cell Golay code of q levels by the table of its patterns: no description is taken, and no pattern is tried.
 #[unsafe(no_mangle)]
 pub extern "C" fn levels_decode_golay(q: usize, word: &[u8], out: &mut [u8]) -> Reading
     ensures numbers { ReadNumbered (decode_golay q word.now out.old).answer result }

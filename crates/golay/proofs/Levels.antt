@@ -1,21 +1,22 @@
 -- The test of the levels, in two vectors.
-use Rattle.std.proofs.Common.{◌≡◌, ℕ, zero, suc, ◌+◌, ◌*◌, ◌-◌, ◌%◌, ◌^◌, ◌<◌, ◌≤◌, ◌&&◌, cond, leb, ltb, nat_eq, List, [], ◌∷◌, map, length}
+use Rattle.std.proofs.Common.{◌≡◌, ℕ, ◌+◌, ◌*◌, ◌-◌, ◌%◌, ◌^◌, ◌<◌, ◌≤◌, ◌&&◌, cond, leb, ltb, nat_eq, List, [], ◌∷◌, map, length}
 use Rattle.std.proofs.Common.{replicate, take, drop, refl, sym, ap, ◌∙◌, subst, arith, w8, inl, inr, ◌⊎◌}
 use lib.Dec.{T}
 use lib.Lanes.{mask_l, top}
 use borrow.Author.Tests.{le-leb, lt-leb, lt-ltb, le-ltb, ne_eqb}
+use Rattle.std.specs.Cmp.{both_ways}
 use Rattle.std.specs.Simd.Lanes.{zip2, chunk}
-use Rattle.std.proofs.lemmas.Bool.{cases_lt, false_from_ne_true}
+use Rattle.std.proofs.lemmas.Bool.Decides.{nat_tests}
+use Rattle.std.proofs.lemmas.Bool.{cases_lt}
 use Rattle.std.proofs.lemmas.List.{take-take, length-map}
 use Rattle.std.proofs.lemmas.Simd.{tops_compared, zip2_splat_left, mask_l-mod, length-chunk, get_or-chunk}
 use Rattle.definitions.specs.Words.{at, all_below}
-use Rattle.definitions.proofs.Tests.{and_left, and_right, and_both, below_each, each_below, passes_or_not}
+use Rattle.definitions.proofs.Tests.{and_left, and_right, and_both, below_each, each_below}
 use Rattle.word_laws.proofs.Cells.{each_at, at_each, each_take, each-drop}
 use Rattle.code_theorems.proofs.Refusals.{is_true}
 
 twice : (m : ℕ) → nat_eq (0 + 2 * m) 0 ≡ nat_eq m 0
-twice zero = refl
-twice (suc m) = ne_eqb (0 + 2 * suc m) 0 (λ e. omega arith) ∙ sym (ne_eqb (suc m) 0 (λ e. omega arith))
+twice m = grind (arith, nat_tests)
 
 -- no lane is q or more
 no_lane : (q : ℕ) (xs : List ℕ) → nat_eq (mask_l (map (leb q) xs)) 0 ≡ all_below q xs
@@ -62,9 +63,4 @@ module _ (q : ℕ) (y : List ℕ) (long : length y ≡ 23) where
       part first = each_below q (chunk first 16 y) (each_take (λ v. v < q) 16 (drop first y) (each-drop (λ v. v < q) first y (below_each q y t)))
 
   pub both_below : (all_below q (chunk 0 16 y) && all_below q (chunk 7 16 y)) ≡ all_below q y
-  both_below = step (passes_or_not (all_below q y))
-    where
-      step : T (all_below q y) ⊎ (T (all_below q y) → ⊥) → (all_below q (chunk 0 16 y) && all_below q (chunk 7 16 y)) ≡ all_below q y
-      step (inl t) = is_true _ (parts t) ∙ sym (is_true _ t)
-      step (inr n) =
-          false_from_ne_true _ (λ e. n (whole (subst T (sym e) tt))) ∙ sym (false_from_ne_true _ (λ e. n (subst T (sym e) tt)))
+  both_below = both_ways _ _ (λ e. is_true _ (whole (subst T (sym e) tt))) (λ e. is_true _ (parts (subst T (sym e) tt)))

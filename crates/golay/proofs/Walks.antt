@@ -23,7 +23,7 @@ lowest_bit n pos small =
     elim (cases_lt (trailing_zeros w32 n) 23) as (λ _. trailing_zeros w32 n ≤ 22)
     [ inl l ↦ omega arith | inr g ↦ let z = bit_at_above n 23 (trailing_zeros w32 n) small g in absurd (omega arith) ]
 
--- one less than a number has no bit where the lowest bit of that is, and above it the same bits
+-- one less than a number has a 0 where the number's lowest 1 is, and the same bits above it
 one_less_at : (t n : ℕ) → bit_at n t ≡ 1 → ((i : ℕ) → i < t → bit_at n i ≡ 0) → bit_at (n - 1) t ≡ 0
 one_less_at zero n s z = omega (arith, bit_at_lowest n, bit_at_lowest (n - 1))
 one_less_at (suc t) n s z =
@@ -93,21 +93,21 @@ one_fewer x l c r h w = record {
 }
 
 -- of the risen cells seen none was read at 0
-pub record Under (y : List ℕ) (x left : ℕ) : Type 0 where
+pub record NoneAtZero (y : List ℕ) (x left : ℕ) : Type 0 where
   pub rest : Left x left
   pub seen : (j : ℕ) → j < 23 → at (word_of_bits x) j ≤ at (word_of_bits left) j + at y j
 
-pub all_unseen : (y : List ℕ) (x : ℕ) → x < 2 ^ 23 → Under y x x
+pub all_unseen : (y : List ℕ) (x : ℕ) → x < 2 ^ 23 → NoneAtZero y x x
 all_unseen y x h = record { rest = all_left x h; seen = λ j l. omega arith }
 
-pub one_seen : (y : List ℕ) (x l c r : ℕ) → Under y x l → WithoutCell l c r → at y c ≢ 0 → Under y x r
+pub one_seen : (y : List ℕ) (x l c r : ℕ) → NoneAtZero y x l → WithoutCell l c r → at y c ≢ 0 → NoneAtZero y x r
 one_seen y x l c r h w n = record {
   rest = one_fewer x l c r h.rest w;
   seen = λ j g. elim (cases_eq j c) as (λ _. at (word_of_bits x) j ≤ at (word_of_bits r) j + at y j)
       [ inl e ↦ rw (e, w.gone) (omega (arith, bit_le x c w.in_word)) | inr d ↦ rw (w.others j g d) (h.seen j g) ];
 }
 
-pub all_seen : (y : List ℕ) (x l : ℕ) → length y ≡ 23 → Under y x l → l ≡ 0 → nowhere_above (word_of_bits x) y ≡ true
+pub all_seen : (y : List ℕ) (x l : ℕ) → length y ≡ 23 → NoneAtZero y x l → l ≡ 0 → nowhere_above (word_of_bits x) y ≡ true
 all_seen y x l ly h e =
     is_true _ (each-above (word_of_bits x) y (at_pair (λ a b. b ≤ a) y (word_of_bits x) (ly ∙ sym (length-word_of_bits x)) λ j g.
     let s = h.seen j (omega arith) in
@@ -117,7 +117,7 @@ under_at : (y : List ℕ) (x j : ℕ) → length y ≡ 23 → nowhere_above (wor
 under_at y x j ly t h = pair_at (λ a b. b ≤ a) y (word_of_bits x) (above-each (word_of_bits x) y (subst T (sym t) tt)) j (omega arith)
 
 pub one_above :
-    (y : List ℕ) (x l c r : ℕ) → length y ≡ 23 → Under y x l → WithoutCell l c r → at y c ≡ 0 → nowhere_above (word_of_bits x) y ≡ false
+    (y : List ℕ) (x l c r : ℕ) → length y ≡ 23 → NoneAtZero y x l → WithoutCell l c r → at y c ≡ 0 → nowhere_above (word_of_bits x) y ≡ false
 one_above y x l c r ly h w z = false_from_ne_true _ λ t. omega (arith, under_at y x c ly t w.in_word, h.rest.within c w.in_word, w.risen)
 
 -- the risen cells seen are lowered

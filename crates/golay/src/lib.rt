@@ -2,7 +2,7 @@
 // nothing is searched.
 #![tactic(auto)]
 
-ghost use Rattle.std.specs.Prelude.{◌≡◌, ◌^◌, ◌%◌, ◌<◌, ◌≤◌, not, true};
+ghost use Rattle.std.specs.Prelude.{◌≡◌, ◌^◌, ◌%◌, ◌<◌, ◌≤◌, not, true, ℕ};
 ghost use Rattle.std.specs.Simd.Lanes.{chunk};
 ghost use Rattle.definitions.specs.Words.{subtract, nowhere_above, all_below};
 ghost use Rattle.definitions.specs.Answers.{result as left_by};
@@ -65,13 +65,11 @@ fn sixteen_below(q: u8, word: &[u8; 23], first: usize) -> bool
     requires { first ≤ 7 }
     ensures { result ≡ all_below q (chunk first 16 word.now) }
 {
-    u8x16::splat(q)
-        .simd_le(u8x16::from_slice(&word[first..]))
-        .to_bitmask()
-        == 0
+    let levels = u8x16::from_slice(&word[first..]);
+    levels.simd_ge(u8x16::splat(q)).to_bitmask() == 0
 }
 
-// Whether all are: two vectors have them, with nine cells in both.
+// Whether all are: two vectors have them, with nine cells in both. By `&`, so without a branch.
 #[tactic(auto, using(crate::proofs::Levels::both_below))]
 fn are_below(q: usize, word: &[u8; 23]) -> bool
     requires { q ≤ 64 }
@@ -80,11 +78,11 @@ fn are_below(q: usize, word: &[u8; 23]) -> bool
     sixteen_below(q as u8, word, 0) & sixteen_below(q as u8, word, 7)
 }
 
-// Decode a word of levels below q. A cell at 0 refuses it before the buffer is written, so the risen cells are walked over twice.
-fn decode_word(q: usize, word: &[u8; 23], out: &mut [u8; 23]) -> Result<usize, Refusal>
-    requires even { q % 2 ≡ 0 }
-    requires below { all_below q word.now ≡ true }
-    ensures { leaves (answer_of result) out.new ≡ left_by (decoded_word (golay_code q) word.now) out.old }
+// Decode a word, for every even q above its levels. A cell at 0 refuses it before the buffer is written, so the risen cells are walked over
+// twice.
+fn decode_word(word: &[u8; 23], out: &mut [u8; 23]) -> Result<usize, Refusal>
+    ensures { (q : ℕ) → q % 2 ≡ 0 → all_below q word.now ≡ true
+        → leaves (answer_of result) out.new ≡ left_by (decoded_word (golay_code q) word.now) out.old }
 {
     let pattern = golay_table::pattern_at(golay_table::syndrome_index(word));
     if is_above(pattern, word) {
@@ -102,7 +100,7 @@ fn decode_received(q: usize, received: &[u8], out: &mut [u8]) -> Result<usize, R
     if q < 2 || 64 < q || q % 2 != 0 {
         return Err(Refusal::OutOfRange);
     }
-    let Ok(word) = <&[u8; 23]>::try_from(received) else {
+    let Some(word) = received.as_array::<23>() else {
         return Err(Refusal::WrongBuffer);
     };
     let Some(out) = out.as_mut_array::<23>() else {
@@ -111,13 +109,15 @@ fn decode_received(q: usize, received: &[u8], out: &mut [u8]) -> Result<usize, R
     if !are_below(q, word) {
         return Err(Refusal::LevelTooLarge);
     }
-    decode_word(q, word, out)
+    decode_word(word, out)
 }
 
-// Read a word of the Golay code of q levels. What is given is the count.
+// Read a word of the Golay code of q levels. What is given is the count. The clauses stand at a function of their own: each return of
+// `decode_received` would owe all four.
 pub fn decode(q: usize, received: &[u8], out: &mut [u8]) -> Result<usize, Refusal>
     ensures result { leaves (answer_of result) out.new ≡ decode_golay q received.now out.old }
-    ensures as_by_search { WhereGolay q (leaves (answer_of result) out.new ≡ decode_code (golay_body q) received.now out.old) }
+    ensures as_by_search { WhereGolay q
+        (leaves (answer_of result) out.new ≡ decode_code (golay_body q) received.now out.old) }
     ensures distance_decides { WhereGolayReads q received.now out.old
         (DistanceDecides (of_code (golay_code q)) received.now (answer_of result) out.new) }
     ensures keeps_messages { WhereGolayReads q received.now out.old

@@ -1,7 +1,7 @@
 -- The columns of the cells, and what their sum modulo 2 says of a word's syndrome.
 use Rattle.std.proofs.Common.{◌≡◌, ℕ, suc, zero, ◌+◌, ◌*◌, ◌-◌, ◌%◌, ◌^◌, ◌<◌, Bool, true, List, [], ◌∷◌, ◌++◌, length, map, drop, get_or}
 use Rattle.std.proofs.Common.{replicate, subst, refl, sym, ap, ◌∙◌, arith}
-use native.Mathlib.Nat.{mul-zero, mul-one, zero-mul, zero-add}
+use native.Mathlib.Nat.{mul-zero, mul-one, zero-mul, zero-add, mod-mod}
 use lib.Dec.{T}
 use lib.Seq.{ext_get_or}
 use Rattle.std.specs.Int.{bit_at}
@@ -16,12 +16,13 @@ use Rattle.definitions.specs.Golay.{golay_code, golay_matrix, syndrome_of_index}
 use Rattle.definitions.proofs.Tests.{same_eq, below_each}
 use Rattle.word_laws.proofs.Cells.{map_same, same_map, up_from_bounds, up_from_mem, at-up_from, sum_same}
 use Rattle.word_laws.proofs.Lists.{entry_passes}
+use Rattle.word_laws.proofs.Remainders.{cong_mul}
 use Rattle.syndrome.specs.Columns.{column}
 use Rattle.syndrome.proofs.Columns.{entry_by_columns}
 use Rattle.golay_table.specs.OddColumns.{odd_columns}
 use Rattle.golay_table.specs.declared.TheConstants.{COLUMNS}
 
--- a row of the columns, and all of them, cell by cell
+-- the columns of a vector, and all of them, cell by cell
 abbrev pub row : ℕ → List ℕ
 row t = get_or COLUMNS t []
 
@@ -56,9 +57,7 @@ xor_small (x ∷ xs) [] s t = tt
 xor_small (x ∷ xs) (y ∷ ys) s t = (xor_lt 11 x y s.0 t.0, xor_small xs ys s.1 t.1)
 
 product_small : (c v : ℕ) → c < 2 ^ 11 → v < 2 → c * v < 2 ^ 11
-product_small c zero h l = omega arith
-product_small c (suc zero) h l = omega arith
-product_small c (suc (suc v)) h l = absurd (omega arith)
+product_small c v h l = grind arith
 
 odd_small : (vs cs : List ℕ) → Small cs → Small (odd_columns vs cs)
 odd_small [] cs s = tt
@@ -69,11 +68,6 @@ bit_of_product : (c v e : ℕ) → v < 2 → bit_at (c * v) e ≡ bit_at c e * v
 bit_of_product c zero e h = rw (mul-zero c, mul-zero (bit_at c e)) (bit_at-zero e)
 bit_of_product c (suc zero) e h = rw (mul-one c, mul-one (bit_at c e)) refl
 bit_of_product c (suc (suc v)) e h = absurd (omega arith)
-
-odd_part : (b v : ℕ) → b < 2 → b * (v % 2) % 2 ≡ b * v % 2
-odd_part zero v h = omega arith
-odd_part (suc zero) v h = omega arith
-odd_part (suc (suc b)) v h = absurd (omega arith)
 
 -- how many of some numbers have bit e, modulo 2, is bit e of their sum modulo 2
 module _ (e : ℕ) where
@@ -99,7 +93,7 @@ module _ (e : ℕ) where
   odd_bits [] cs = refl
   odd_bits (v ∷ vs) [] = refl
   odd_bits (v ∷ vs) (c ∷ cs) =
-      omega (arith, bit_of_product c (v % 2) e (omega arith), odd_part (bit_at c e) v (bit_at-lt c e), odd_bits vs cs)
+      omega (arith, bit_of_product c (v % 2) e (omega arith), cong_mul 2 (bit_at c e) (v % 2) v (mod-mod v 2), odd_bits vs cs)
 
   -- columns of 0 in front count nothing
   without_zeros : (n : ℕ) (vs cs : List ℕ) → part vs (replicate n 0 ++ cs) ≡ part (drop n vs) cs
@@ -107,7 +101,7 @@ module _ (e : ℕ) where
   without_zeros (suc n) [] cs = refl
   without_zeros (suc n) (v ∷ vs) cs = omega (arith, without_zeros n vs cs, ap (λ (b : ℕ). b * v) (bit_at-zero e), zero-mul v)
 
--- the lanes: two rows of cells, added
+-- the lanes: two vectors of cells, added
 abbrev pub lanes : List ℕ → List ℕ
 lanes y = zip2 bit_xor (odd_columns (chunk 0 16 y) (row 0)) (odd_columns (chunk 7 16 y) (row 1))
 

@@ -2,16 +2,16 @@
 #![tactic(auto)]
 
 ghost use Rattle.std.specs.Prelude.{◌≡◌, true, ℕ, ◌<◌, ◌≤◌, count_ones};
+ghost use Rattle.std.specs.Simd.Lanes.{chunk};
 ghost use Rattle.definitions.specs.Words.{weight, all_below};
 ghost use Rattle.definitions.specs.Codewords.{syndrome};
-ghost use Rattle.golay_table.specs.OddColumns.{odd_columns};
-ghost use Rattle.std.specs.Simd.Lanes.{chunk};
 ghost use Rattle.definitions.specs.Golay.{golay_code, syndrome_of_index, word_of_bits, HasIndex};
+ghost use Rattle.golay_table.specs.OddColumns.{odd_columns};
 
 use std::simd::prelude::*;
 
-// The columns of the cells: of cell j the remainder of x^(23-j), with row 1 of the matrix in its highest bit. Sixteen to a row; the second
-// row begins at cell 8, and has 0 for the nine cells that the first has too.
+// The columns of the cells, sixteen to a vector: of cell j the remainder of x^(23-j), with row 1 of the matrix in its highest bit. The second
+// vector begins at cell 8, and has 0 for the nine cells that the first has too.
 const COLUMNS: [[u16; 16]; 2] = [
     [
         1393, 1993, 1685, 1595, 1644, 822, 411, 1468, 734, 367, 1478, 739, 1024, 512, 256, 128,

@@ -1,4 +1,4 @@
--- Columns, and the entries of a syndrome beyond the matrix.
+-- Columns, an entry of a syndrome by them, and the entries beyond the matrix.
 use mathlib.Core.Path.{◌≡◌, refl, sym, ap, ap₂, ◌∙◌}
 use mathlib.Core.Bool.{Bool, true, false, cond}
 use mathlib.Core.List.{List, ◌++◌}

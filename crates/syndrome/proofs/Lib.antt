@@ -1,2 +1,2 @@
--- columns, and the entries of a syndrome beyond the matrix
+-- columns, an entry of a syndrome by them, and the entries beyond the matrix
 pub mod Columns

@@ -1,4 +1,4 @@
--- The first entry that passes a test, and lists whose entries are all different.
+-- The first entry that passes a test, and tests of all entries; lists whose entries are all different.
 use mathlib.Core.Path.{◌≡◌, refl, sym, ap, ◌∙◌, subst}
 use mathlib.Core.Bool.{Bool, true, false, not}
 use mathlib.Core.Logic.{◌⊎◌, inl, inr}

@@ -5,13 +5,13 @@ use Rattle.golay.proofs.Decoding.{refuses, gives}
 use Rattle.golay.proofs.decode_word.Goals as goal
 
 pub returns-then-is_above : goal.returns-then-is_above
-returns-then-is_above c =
+returns-then-is_above c = λ q even below.
     let long : length c.args.word.now ≡ 23 = omega arith in
-    refuses _ c.requires.even _ long (below_each _ _ (subst T (sym c.requires.below) tt)) _ _ c.pattern_at-pattern.ensures.index
+    refuses q even _ long (below_each _ _ (subst T (sym below) tt)) _ _ c.pattern_at-pattern.ensures.index
     (c.syndrome_index.ensures.index _) _ c.if-is_above.ensures
 
 pub returns : goal.returns
-returns c =
+returns c = λ q even below.
     let long : length c.args.word.now ≡ 23 = omega arith in
-    gives _ c.requires.even _ long (below_each _ _ (subst T (sym c.requires.below) tt)) _ _ c.pattern_at-pattern.ensures.index
+    gives q even _ long (below_each _ _ (subst T (sym below) tt)) _ _ c.pattern_at-pattern.ensures.index
     (c.syndrome_index.ensures.index _) _ c.if-is_above.ensures _ _ c.pattern_at-pattern.ensures.weight c.store_decoded.ensures
