@@ -1,4 +1,4 @@
-/* Document 01's examples, and a transponder number and leftover bits as document 02 wants them, and the Golay code's table, through the C
+/* Document 01's examples, a transponder number and leftover bits as document 02 wants them, and the Golay code's table, through the C
  * boundary. Prints a line for each that fails, then how many passed. */
 #include <stdio.h>
 #include <string.h>
@@ -175,7 +175,7 @@ static void golay_refusals(void) {
     expect("Golay code, 2, no levels", refuses(decode_golay(0, GOLAY, 23, out, 23), 2, 0, out, 23));
     expect("Golay code, 2, 66 levels", refuses(decode_golay(66, GOLAY, 23, out, 23), 2, 0, out, 23));
     expect("Golay code, 2, 8 modulo 256", refuses(decode_golay(264, GOLAY, 23, out, 23), 2, 0, out, 23));
-    expect("Golay code, 2, the most levels", refuses(decode_golay(SIZE_MAX - 1, GOLAY, 22, out, 24), 2, 0, out, 24));
+    expect("Golay code, 2, almost 2^64", refuses(decode_golay(SIZE_MAX - 1, GOLAY, 22, out, 24), 2, 0, out, 24));
     expect("Golay code, 8", refuses(decode_golay(8, GOLAY, 22, out, 23), 8, 0, out, 23));
     expect("Golay code, 8, output", refuses(decode_golay(2, GOLAY, 23, out, 24), 8, 0, out, 24));
     expect("Golay code, 10", refuses(decode_golay(6, beyond, 23, out, 23), 10, 0, out, 23));

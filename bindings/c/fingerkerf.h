@@ -9,7 +9,7 @@
  * Every call ends and answers. A refusal is a number, and leaves every buffer as it was:
  *
  *    1  a body too short for its fields               take the whole body; it was cut off
- *    2  a field, length, kind or entry out of range   check the fields against document 01's ranges; for a row, its entry number
+ *    2  field, length, kind, entry or q out of range  check the fields against document 01's ranges; for a row, its entry number; for the table, q even, 2 to 64
  *    3  a body of another length than its fields ask  take exactly the body: its matrix is cut off or followed by other bytes
  *    4  an entry of the matrix of M or more           the matrix is damaged, or of another modulus
  *    5  more than 4,096 patterns                      choose smaller n, l or t
@@ -87,7 +87,7 @@ size_t levels_recover(const uint8_t *body, size_t body_len, const uint8_t *word,
  * writes what levels_decode does with that code's description, but for tried, which is 0: the pattern is looked up in a table of 2,048, and
  * nothing is searched. The description is 23 11 q 2 1 3 and the matrix whose column j, from 1 to 12, is the remainder of x^(23-j) by
  * x^11 + x^9 + x^7 + x^6 + x^5 + x + 1, modulo 2, with the coefficient of x^(11-k) in row k. That code is accepted for every such q.
- * Refusals, in this order: 2 for q, all values of it; 8; 10; 11. */
+ * Refusals, in this order: 2 for an odd q or one outside 2 to 64; 8; 10; 11. */
 levels_reading levels_decode_golay(size_t q, const uint8_t *word, size_t word_len, uint8_t *out, size_t out_len);
 
 /* Stacks, likewise. A message has levels_stack_symbols digits. */

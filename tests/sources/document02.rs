@@ -11,7 +11,7 @@ use std::collections::HashSet;
 const T: [u8; 14] = [6, 2, 6, 3, 1, 1, 1, 1, 2, 2, 1, 2, 1, 2];
 /// A transponder code has four octal digits.
 const TRANSPONDER_CODES: u64 = 0o10000;
-/// The columns of the Golay code's first twelve cells, row 1 of the matrix with the weight 1,024 and row 11 with 1.
+/// The columns of the Golay code's first twelve cells, row 1 of the matrix with the value 1,024 and row 11 with 1.
 const COLUMNS: [usize; 12] = [1393, 1993, 1685, 1595, 1644, 822, 411, 1468, 734, 367, 1478, 739];
 
 pub fn run() -> usize {
