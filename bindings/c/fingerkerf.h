@@ -9,7 +9,7 @@
  * Every call ends and answers. A refusal is a number, and leaves every buffer as it was:
  *
  *    1  a body too short for its fields               take the whole body; it was cut off
- *    2  field, length, kind, entry or q out of range  check the fields against document 01's ranges; for a row, its entry number; of the table, q even, 2 to 64
+ *    2  field, length, kind, entry or q out of range  check the fields against document 01's ranges; for a row, its entry number; of the Golay code, an even q
  *    3  a body of another length than its fields ask  take exactly the body: its matrix is cut off or followed by other bytes
  *    4  an entry of the matrix of M or more           the matrix is damaged, or of another modulus
  *    5  more than 4,096 patterns                      choose smaller n, l or t
