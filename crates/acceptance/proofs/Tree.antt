@@ -2,7 +2,7 @@
 use mathlib.Core.Path.{◌≡◌, refl, sym, ap, ap₂, ◌∙◌, subst}
 use mathlib.Core.Logic.{◌⊎◌, inl, inr}
 use mathlib.Core.List.{List}
-use Prim.Native.Nat.{ℕ, zero, suc, ◌+◌, ◌*◌, ◌-◌, ◌/◌, ◌%◌, ◌≤◌, ◌<◌}
+use Prim.Native.Nat.{ℕ, zero, suc, ◌+◌, ◌*◌, ◌-◌, ◌%◌, ◌≤◌, ◌<◌}
 use native.Mathlib.Nat.{eq-or-lt_of_le, mod-lt}
 use native.Mathlib.Decide.{dec_lt}
 use native.Mathlib.Omega.{arith}
@@ -10,7 +10,8 @@ use lib.ListN.{length, set, replicate}
 use lib.Seq.{get_or-set_same, get_or-set_other}
 use Rattle.definitions.specs.Words.{at}
 use Rattle.word_laws.proofs.Filling.{zeros-at}
-use Rattle.acceptance.specs.Tree.{bucket_of, child_of, bits_after, slot_after, Reaches, Tree, SlotOf}
+use Rattle.acceptance.specs.declared.different.Bits.{Bits}
+use Rattle.acceptance.specs.Tree.{bucket_of, bits_of, next_bits, child_of, bits_after, slot_after, Reaches, Tree, SlotOf}
 
 -- a step leads further on
 pub further : {keys slots : List ℕ} {n : ℕ} → Tree keys slots n → (s j r x : ℕ) → j ≡ at slots s → (j ≡ 0 → ⊥) → r ≡ child_of j x
@@ -21,7 +22,7 @@ further tree s j r x e z q =
     (omega arith, omega arith, omega arith)
 
 -- the walk at slot s: the slots passed hold other keys; x has the bits that come next
-pub record Walk (keys slots : List ℕ) (key s x : ℕ) : Type 0 where
+pub record Walk (keys slots : List ℕ) (key s : ℕ) (x : Bits) : Type 0 where
   pub steps : ℕ
   pub there : s ≡ slot_after slots key steps
   pub bits : x ≡ bits_after key steps
@@ -29,13 +30,13 @@ pub record Walk (keys slots : List ℕ) (key s x : ℕ) : Type 0 where
   pub others : (k : ℕ) → k < steps → at keys (at slots (slot_after slots key k) - 1) ≡ key → ⊥
 
 module _ (keys slots : List ℕ) (key : ℕ) where
-  pub walk_start : (s : ℕ) → s ≡ bucket_of key → Walk keys slots key s key
+  pub walk_start : (s : ℕ) (x : Bits) → s ≡ bucket_of key → x ≡ bits_of key → Walk keys slots key s x
   unfolding slot_after bits_after
-  walk_start s e =
+  walk_start s x e b =
       record {
         steps = 0;
         there = e;
-        bits = refl;
+        bits = b;
         full = λ k h. absurd (omega arith);
         others = λ k h. absurd (omega arith);
       }
@@ -48,19 +49,19 @@ module _ (keys slots : List ℕ) (key : ℕ) where
       by (inl e) = let q : n ≡ k = omega arith in subst P q g
       by (inr m) = h k (omega arith)
 
-  module _ (s x : ℕ) (w : Walk keys slots key s x) where
+  module _ (s : ℕ) (x : Bits) (w : Walk keys slots key s x) where
     walk_reaches : Reaches slots key s
     walk_reaches = record { steps = w.steps; there = w.there; full = w.full }
 
     -- a slot that holds the number j of another key
     module _ (j : ℕ) (e : j ≡ at slots s) (z : j ≡ 0 → ⊥) where
-      pub walk_on : (at keys (j - 1) ≡ key → ⊥) → (r : ℕ) → r ≡ child_of j x → Walk keys slots key r (x / 2)
+      pub walk_on : (at keys (j - 1) ≡ key → ⊥) → (r : ℕ) → r ≡ child_of j x.next → (y : Bits) → y ≡ next_bits x → Walk keys slots key r y
       unfolding slot_after bits_after
-      walk_on o r q =
+      walk_on o r q y f =
           record {
             steps = suc w.steps;
-            there = q ∙ ap₂ child_of held w.bits;
-            bits = ap (λ (v : ℕ). v / 2) w.bits;
+            there = q ∙ ap₂ child_of held (ap (λ (b : Bits). b.next) w.bits);
+            bits = f ∙ ap next_bits w.bits;
             full = step_more (λ k. at slots (slot_after slots key k) ≡ 0 → ⊥) w.steps w.full (λ u. z (held ∙ u));
             others = step_more (λ k. at keys (at slots (slot_after slots key k) - 1) ≡ key → ⊥) w.steps w.others
                 (λ u. o (ap (λ (v : ℕ). at keys (v - 1)) held ∙ u));
@@ -108,7 +109,7 @@ module _ (slots : List ℕ) (r v : ℕ) (z : at slots r ≡ 0) where
     unfolding slot_after
     slot_kept zero h = refl
     slot_kept (suc n) h =
-        ap (λ (j : ℕ). child_of j (bits_after key n))
+        ap (λ (j : ℕ). child_of j (bits_after key n).next)
         (ap (at (set slots r v)) (slot_kept n (λ k l. h k (omega arith))) ∙ other_slot (slot_after slots key n) (h n (omega arith)))
 
     reaches-kept : (s : ℕ) → Reaches slots key s → Reaches (set slots r v) key s

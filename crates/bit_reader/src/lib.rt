@@ -1,8 +1,9 @@
 // The reader of packed bytes: it stays on the lent bytes and remembers its next bit.
 #![tactic(auto)]
 
-ghost use Rattle.std.specs.Prelude.{◌≡◌, ◌+◌, ◌<◌, ◌≤◌, ◌^◌, length};
+ghost use Rattle.std.specs.Prelude.{◌≡◌, ◌+◌, ◌<◌, ◌≤◌, ◌^◌, length, take};
 ghost use Rattle.definitions.specs.Packing.{symbol_at};
+ghost use Rattle.bit_reader.specs.Taking.{Narrow, taken};
 
 // How many bits the symbol of each of n cells has: `wide` before the check cells, before which there are `leading` cells,
 // and `narrow` at them. Without facts, so that any can be made, as before; take_symbols asks that they are narrow.
@@ -42,6 +43,17 @@ impl Layout {
             reader.advance(width);
         }
     }
+}
+
+// Take the symbols of all cells from bytes into the first cells of an array, for a caller that has no buffer of n cells.
+pub fn take_symbols(bytes: &[u8], layout: Layout) -> [u8; 64]
+    requires { Narrow layout }
+    ensures long { length result ≡ 64 }
+    ensures symbols { take layout.n result ≡ taken layout bytes.now }
+{
+    let mut symbols = [0u8; 64];
+    layout.take_symbols(bytes, &mut symbols[..layout.n]);
+    symbols
 }
 
 // The bytes that are read, and the next bit. Only `advance` moves it on.

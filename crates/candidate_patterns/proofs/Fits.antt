@@ -126,7 +126,7 @@ module _ (p : Code) (y : List ℕ) (k : Risen) (ly : length y ≡ p.n) where
   at-word i h = word_at p.n k i h
 
   -- the pattern is above the word at cell i
-  above_fails : (i : ℕ) → is_above_at y k i ≡ true → false ≡ fits p y (word_of p.n k)
+  pub above_fails : (i : ℕ) → is_above_at y k i ≡ true → false ≡ fits p y (word_of p.n k)
   above_fails i e = sym (is_false (fits p y (word_of p.n k)) (λ f. step f (dec_lt i p.n)))
     where
       above : at y i < at (word_of p.n k) i
@@ -160,7 +160,7 @@ module _ (p : Code) (y : List ℕ) (k : Risen) (ly : length y ≡ p.n) where
   module _
       (m : 0 < p.M) (levels : EachCell (λ v. v < p.q) y) (same : same_syndrome p y (word_of p.n k) ≡ true)
       (under : (i : ℕ) → i < p.n → magnitude_at k i ≤ at y i) where
-    checks-below : (u : ℕ) → u ≡ ceiling p → ((i : ℕ) → i < p.n → data_cells p ≤ i → at y i - magnitude_at k i < u) → true ≡ fits p y (word_of p.n k)
+    pub checks-below : (u : ℕ) → u ≡ ceiling p → ((i : ℕ) → i < p.n → data_cells p ≤ i → at y i - magnitude_at k i < u) → true ≡ fits p y (word_of p.n k)
     checks-below u eu h =
         sym (fits_all p y (word_of p.n k) ly (length-word p.n k) m levels same
         (λ i b. (rw (at-word i b) (under i b), λ w. rw (at-word i b, ← eu) (h i b w))))

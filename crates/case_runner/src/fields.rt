@@ -1,7 +1,7 @@
 // The parts of a case, and the numbers in them.
-ghost use Rattle.std.specs.Prelude.{IfOk, ◌≤◌, length};
+ghost use Rattle.std.specs.Prelude.{◌≤◌, length};
 
-use std::alloc::AllocError;
+use arrayvec::ArrayVec;
 
 // An operation's word, its body and input, and the length of the output, modulo 65,536.
 #[derive(Clone, Copy)]
@@ -65,14 +65,15 @@ fn byte(word: &[u8]) -> u8 {
     (number(word) % 256) as u8
 }
 
-// The bytes between a field's spaces, `most` of them at most.
-pub fn bytes<R: Alloc>(rt: &R, field: &[u8], most: usize) -> Result<Vec<u8, R::A>, AllocError>
-    ensures within { IfOk result (λ v. length v.items ≤ most) }
+// The bytes between a field's spaces, `most` of them at most, and no more than 1,024. They stand in an ArrayVec, so that a case asks for no memory.
+pub fn bytes(field: &[u8], most: usize) -> ArrayVec<u8, 1024>
+    ensures within { length result.items ≤ most }
 {
-    field
-        .split(|b| *b == b' ')
-        .filter(|word| !word.is_empty())
-        .take(most)
-        .map(byte)
-        .collect(rt.alloc())
+    let mut bytes = ArrayVec::new();
+    for word in field.split(|b| *b == b' ') {
+        if !word.is_empty() && bytes.len() < most {
+            let _ = bytes.try_push(byte(word));
+        }
+    }
+    bytes
 }

@@ -9,7 +9,6 @@
 
 use crate::fields::{Call, Case};
 use crate::printing::{Answer, Buffer, Shown};
-use std::alloc::AllocError;
 
 mod code_cases;
 mod fields;
@@ -23,35 +22,33 @@ mod stack_cases;
 
 // The answer of the operation that has the case's name, by a match on it, which is plainer than a table of functions; an output is stored
 // in `out`.
-fn answer(rt: &impl Alloc, case: &Case, out: &mut [u8]) -> Result<Answer, AllocError> {
-    let body = fields::bytes(rt, case.body, 1024)?;
-    let input = fields::bytes(rt, case.input, 512)?;
+fn answer(case: &Case, out: &mut [u8]) -> Answer {
+    let body = fields::bytes(case.body, 1024);
+    let input = fields::bytes(case.input, 512);
     let call = Call {
         name: case.name,
         body: &body,
         input: &input,
         number: fields::number(case.input),
     };
-    Ok(
-        code_cases::run(&call, out)
-            .or_else(|| golay_cases::run(&call, out))
-            .or_else(|| stack_cases::run(&call, out))
-            .or_else(|| label_cases::run(&call, out))
-            .or_else(|| packing_cases::run(&call, out))
-            .or_else(|| number_cases::run(&call, out))
-            .or_else(|| image_cases::run(&call, out))
-            .unwrap_or(Answer::Message("no operation of that name")),
-    )
+    code_cases::run(&call, out)
+        .or_else(|| golay_cases::run(&call, out))
+        .or_else(|| stack_cases::run(&call, out))
+        .or_else(|| label_cases::run(&call, out))
+        .or_else(|| packing_cases::run(&call, out))
+        .or_else(|| number_cases::run(&call, out))
+        .or_else(|| image_cases::run(&call, out))
+        .unwrap_or(Answer::Message("no operation of that name"))
 }
 
-// What cannot be printed is passed over; where there is no memory for a case, that is said.
-fn run_case(rt: &(impl Print + Alloc), case: &Case) {
+// What cannot be printed is passed over.
+fn run_case(rt: &impl Print, case: &Case) {
     let mut cells = [9u8; 512];
     let Some(out) = cells.get_mut(..usize::from(case.length)) else {
         let _ = rt.println("output too long");
         return;
     };
-    let _ = match answer(rt, case, out).unwrap_or(Answer::Message("out of memory")) {
+    let _ = match answer(case, out) {
         Answer::Alone(given) => println!(rt; "{}", Shown(given)),
         Answer::WithOutput(given) => println!(rt; "{}{}", Shown(given), Buffer(out)),
         Answer::Message(why) => rt.println(why),
@@ -59,7 +56,7 @@ fn run_case(rt: &(impl Print + Alloc), case: &Case) {
 }
 
 // Runs the cases of a text, each on a line of its own, and prints the answer of each.
-pub fn run(rt: &(impl Print + Alloc), text: &[u8]) {
+pub fn run(rt: &impl Print, text: &[u8]) {
     for line in text.split_inclusive(|b| *b == b'\n') {
         let line = line.strip_suffix(b"\n").unwrap_or(line);
         if line.is_empty() || line.starts_with(b"#") {

@@ -51,22 +51,19 @@ pub fn is_codeword(code: &Code, word: &[u8]) -> bool
         && code.has_zero_syndrome(word)
 }
 
-// Each level divided by m.
-fn divide(levels: &mut [u8], m: usize)
-    requires { 0 < m }
-    ensures { levels.new ≡ map (λ v. v / m) levels.old }
-{
-    for level in levels.iter_mut() {
-        *level = (usize::from(*level) / m) as u8;
-    }
-}
-
-// The message that a word carries.
+// The message that a word carries. In one loop, not by a copy that is changed in place: such a copy calls memmove, which a caller's C library
+// would have to bring for this alone.
 #[tactic(auto, unfolding(definitions::specs::Messages::message))]
 pub fn store_message(code: &Code, word: &[u8], out: &mut [u8])
     requires { (length word.now ≡ code.now.n) × (length out.old ≡ code.now.n) }
     ensures { out.new ≡ message (the_code code.now) word.now }
 {
-    out.copy_from_slice(word);
-    divide(&mut out[code.n - code.r..], code.m);
+    let w = code.n - code.r;
+    for (i, cell) in out.iter_mut().enumerate() {
+        *cell = if w <= i {
+            (usize::from(word[i]) / code.m) as u8
+        } else {
+            word[i]
+        };
+    }
 }

@@ -7,12 +7,15 @@ use native.Mathlib.Nat.{zero-add}
 use native.Mathlib.Omega.{arith}
 use lib.Dec.{eqb}
 use lib.ListN.{length, length-append, drop, replicate, take}
+use lib.Seq.{take-append_seam}
 use borrow.Author.Tests.{le-leb, eq-eqb, ne_eqb}
+use Rattle.std.specs.Prelude.{Ok, Err}
+use Rattle.std.specs.Prelude.{Result as StdResult}
 use Rattle.definitions.specs.Words.{at}
 use Rattle.definitions.specs.Answers.{given, refused, Result}
 use Rattle.definitions.specs.Images.{entry_at, body_of, reference_of, entry_numbers, is_row, check_image, RowRecord, recorded, decode_row}
 use Rattle.definitions.specs.CartridgeLists.{entry_line, line_of, row_line, row_lines, lines_of, image_line, list_image}
-use Rattle.answers.specs.Answering.{refusal_number, refused_as, outcome_as, leaves}
+use Rattle.answers.specs.Answering.{refusal_number, refused_as, outcome_as, answer_of, leaves}
 use Rattle.answers.specs.declared.Refusal.{Refusal}
 use Rattle.answers.specs.declared.Refusal.TheVariants.{NoPatternInPlane}
 use Rattle.image.proofs.Checked.{row_of}
@@ -67,7 +70,7 @@ module _ (x : List ℕ) (lent : Lines) where
 
 -- a row that was read: its entry, its numbers and its line
 module _ (x : List ℕ) (k : ℕ) (c : CheckedRow x k) (r : Record) (lent after : List ℕ) (e : (record_as r, after) ≡ recorded k (decode_row x k lent)) where
-  read_entry : r.entry ≡ k
+  pub read_entry : r.entry ≡ k
   read_entry = ap (λ (u : RowRecord × List ℕ). u.0.entry) e
 
   pub read_printable : Printable (outcome_as r.outcome) after
@@ -97,6 +100,12 @@ module _ (x : List ℕ) (k : ℕ) (low : 1 ≤ k) (high : k ≤ at x 0) where
   pub row_line_lem : is_row x k ≡ true → entry_line x k ≡ line_of x k
   row_line_lem e = ap (λ (t : Bool). cond t (line_of x k) []) (sym kind_decides ∙ e)
 
+-- an answer that gives a number is Ok
+given_ok : (r : StdResult ℕ Refusal) (k : ℕ) → answer_of r ≡ given k → r ≡ Ok k
+given_ok (Ok a) k e = ap Ok cc
+given_ok (Err (NoPatternInPlane j)) k e = absurd cc
+given_ok (Err y) k e = absurd cc
+
 -- the operation
 module _ (x out : List ℕ) where
   pub wrong_buffer : (length out ≡ 8192 → ⊥) → leaves (refused 8) out ≡ list_image x out
@@ -112,6 +121,18 @@ module _ (x out : List ℕ) where
       rw e
       (ap₂ {C = Result ℕ} (λ (n : ℕ) (a : List ℕ). leaves (given n) a) (p.behind ∙ zero-add (length (lines_of x)))
       (p.text ∙ ap (λ (u : ℕ). lines_of x ++ drop u out) (zero-add (length (lines_of x)))))
+
+  -- what it answers for a buffer of its length, and what the buffer then begins with
+  module _ (h : length out ≡ 8192) (r : StdResult ℕ Refusal) (after : List ℕ) (e : leaves (answer_of r) after ≡ list_image x out) where
+    whole : leaves (answer_of r) after ≡ leaves (given (length (lines_of x))) (lines_of x ++ drop (length (lines_of x)) out)
+    unfolding list_image
+    whole = let f = eq-eqb (length out) 8192 h in e ∙ rw f refl
+
+    pub is_given : r ≡ Ok (length (lines_of x))
+    is_given = given_ok r (length (lines_of x)) (ap (λ (u : Result ℕ). u.answer) whole)
+
+    pub text_first : take (length (lines_of x)) after ≡ lines_of x
+    text_first = ap (λ (u : Result ℕ). take (length (lines_of x)) u.out) whole ∙ take-append_seam (lines_of x) (drop (length (lines_of x)) out)
 
 -- the lines of an image by its check
 module _ (x : List ℕ) where

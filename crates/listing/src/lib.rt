@@ -83,11 +83,11 @@ pub fn list(image: &[u8], out: &mut [u8]) -> Result<usize, Refusal>
     Ok(put_first(image, out))
 }
 
-// The same, written where a program wants it.
+// The same, written where a program wants it. `list` answers Ok, for the buffer has its length.
 pub fn write_lines<W: Write>(image: &[u8], writer: &mut W) -> io::Result<()>
     ensures { OnOk result (Appends (W.contents writer.old) (W.contents writer.new) (lines_of image.now)) }
 {
     let mut lines = [0u8; 8192];
-    let length = put_first(image, &mut lines);
+    let length = list(image, &mut lines).unwrap();
     writer.write_all(&lines[..length])
 }

@@ -47,7 +47,7 @@ module _ (m : Symbols) where
 
   module _ (x : Pulled) (g : Pulling m x) where
     -- at most what the byte's bits and one more symbol make
-    value-below : x.value < 2 ^ x.bits
+    pub value-below : x.value < 2 ^ x.bits
     value-below = rw g.value (bits_below (bits_from (first m x)) (λ k. bits_small (width_in m.layout) m.message.now m.layout.n (first m x + k)) x.bits)
 
     pub value-few : x.bits < 8 → x.value < 256
@@ -98,7 +98,7 @@ module _ (m : Symbols) where
       small i k = bits_small (width_in m.layout) m.message.now m.layout.n (i + k)
 
       -- the byte
-      byte_full : x.value % 256 ≡ from_bits 8 (bits_from (8 * j))
+      pub byte_full : x.value % 256 ≡ from_bits 8 (bits_from (8 * j))
       byte_full = ⊎_elim begun ended placed
         where
           over : 8 ≤ x.bits → x.value % 256 ≡ from_bits 8 (bits_from (first m x))

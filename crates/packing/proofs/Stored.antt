@@ -16,7 +16,7 @@ use Rattle.bit_reader.specs.declared.Layout.{Layout}
 
 module _ (p : Code) where
   -- no symbol has a bit past the last
-  packs : (s : List ℕ) → bytes_of (byte_count p) (at (bits_of (width p) s p.n)) ≡ pack p s
+  pub packs : (s : List ℕ) → bytes_of (byte_count p) (at (bits_of (width p) s p.n)) ≡ pack p s
   unfolding pack bit_count
   packs s =
       bytes_same (byte_count p) (at (bits_of (width p) s p.n)) (λ k. cond (is_leftover p k) 0 (at (bits_of (width p) s p.n) k))
@@ -30,7 +30,7 @@ module _ (p : Code) where
 
   -- of a code with the layout l
   module _ (l : Layout) (n : l.n ≡ p.n) (w : (i : ℕ) → width p i ≡ width_in l i) where
-    widths : width_in l ≡ width p
+    pub widths : width_in l ≡ width p
     widths = fun_ext (λ i. sym (w i))
 
     pub symbol_fits : packable p ≡ true → (s : List ℕ) → Message p s → (i : ℕ) → i < l.n → at s i < 2 ^ width_in l i

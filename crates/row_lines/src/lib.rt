@@ -34,7 +34,6 @@ impl<'a> Lines<'a> {
         self.place += 1;
     }
 
-    // Each line ends with it.
     fn end(&mut self)
         requires { Room self.old 1 }
         ensures { Adds self.old newline self.new }
@@ -42,14 +41,18 @@ impl<'a> Lines<'a> {
         self.byte(b'\n');
     }
 
-    // A number below 100 in decimal. The bound stays a clause, here and below: a type for it would be longer.
+    // A number below 100 in decimal, byte by byte: a copy of one or two bytes costs more. The bound stays a clause, here and below: a type for it
+    // would be longer.
     #[tactic(auto, using(crate::proofs::Decimals::decimal_is, crate::proofs::Decimals::short))]
     fn decimal(&mut self, n: usize)
         requires small { n < 100 }
         requires room { Room self.old 2 }
         ensures { Adds self.old (decimal n) self.new }
     {
-        self.text(itoa::Buffer::new().format(n).as_bytes());
+        let mut buffer = itoa::Buffer::new();
+        for digit in buffer.format(n).as_bytes() {
+            self.byte(*digit);
+        }
     }
 
     // A space and a number.
@@ -113,7 +116,7 @@ impl<'a> Lines<'a> {
         self.text(b"row ");
         self.decimal(entry);
         self.outcome(outcome, levels);
-        self.end();
+        self.text(b"\n");
     }
 
     // The line of a refused image.

@@ -49,7 +49,7 @@ module _ (p : codes.Code) (s : List ℕ) (k : Risen) (left cell : ℕ) (ch : Cho
   remains_start rest r =
       remains_same p s k (added k cell 0) rest (word_same p.n k (added k cell 0) (λ i h. sym (added_none k ch.three (ch.free 2 (omega arith)) cell i))) r
 
-  remains-next :
+  pub remains-next :
       (mag : ℕ) (rest rest' : List ℕ) → cell < p.n → ((i : ℕ) → column p i cell < p.M) → Remains p s (added k cell mag) rest
       → ((i : ℕ) → at rest' i ≡ less_modulo p.M (at rest i) (column p i cell)) → Remains p s (added k cell (mag + 1)) rest'
   remains-next mag rest rest' h b r e = remains-lowered p s (added k cell mag) rest r cell (added k cell (mag + 1)) rest' h more b e

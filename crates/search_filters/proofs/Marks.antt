@@ -16,7 +16,7 @@ pub hash_same : (f g : ℕ → ℕ) → ((i : ℕ) → f i ≡ g i) → hash_of 
 hash_same f g h = rw (h 0, h 1, h 2, h 3, h 4, h 5, h 6, h 7, h 8, h 9, h 10, h 11)
 
 -- a hash at which no cell from the given one on stands
-ruled_out : (p : Code) (last rest : List ℕ) (cell : ℕ) → LastCells p last → at last (hash_of (at rest)) ≤ cell → NoneFrom p cell rest
+pub ruled_out : (p : Code) (last rest : List ℕ) (cell : ℕ) → LastCells p last → at last (hash_of (at rest)) ≤ cell → NoneFrom p cell rest
 ruled_out p last rest cell table past c from h g low high same =
     let later : c < at last (hash_of (at rest)) = rw (← hash_same (multiple_of p c g) (at rest) same) (table.above c g h low high) in
     omega arith

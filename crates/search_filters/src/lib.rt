@@ -81,6 +81,14 @@ pub fn cannot_end_from(last: Option<&[u8; 4096]>, left: usize, cell: usize, rest
     }
 }
 
+// The same of a table in a slice, which is looked at only where one choice is left: for a caller that has the table in no array.
+pub fn cannot_end_in(last: &[u8], left: usize, cell: usize, rest: &[u8; 12]) -> bool
+    requires { left ≡ 1 → length last.now ≡ 4096 }
+    ensures { result ≡ true → (left ≡ 1) × (at last.now (hash_of (at rest.now)) ≤ cell) }
+{
+    left == 1 && usize::from(last[hash(rest)]) <= cell
+}
+
 // A multiple of an entry modulo m; most are below m already.
 fn multiple(m: usize, a: usize, b: usize) -> usize
     requires { (0 < m) × (a ≤ 64) × (b ≤ 64) }

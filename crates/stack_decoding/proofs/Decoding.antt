@@ -24,7 +24,7 @@ use Rattle.candidate_patterns.proofs.Choices.{length-word, word_at}
 use Rattle.search.specs.Search.{found_word}
 use Rattle.search.specs.declared.Pattern.{Pattern}
 use Rattle.stack_opening.specs.Planes.{as_codes}
-use Rattle.stack_opening.specs.Viewed.{stack}
+use Rattle.stack_opening.specs.Viewed.{planes_of, stack}
 use Rattle.stack_opening.specs.declared.Stack.{Stack}
 use Rattle.stack_opening.specs.declared.plane.Plane.{Plane}
 use Rattle.stack_operations.proofs.Planes.{From, value, later, are_planes, next_plane, from_stack, plane_cells, is_plane}
@@ -81,10 +81,10 @@ value_fits n w (x ∷ ps) h zero p l is =
 value_fits n w (x ∷ ps) h (suc j) p l is =
     omega (arith, value_fits n (w * x.code.m) ps (later n w x ps h) j p (omega arith) is, mul_assoc w x.code.m (product (as_codes ps)))
 
-pub value_most : (s : Stack) (j : ℕ) (p : Plane) → j < length s.planes.items → p ≡ get_or s.planes.items j p
+pub value_most : (s : Stack) (j : ℕ) (p : Plane) → j < length (planes_of s) → p ≡ get_or (planes_of s) j p
     → (p.w * p.code.m ≤ s.q) × (p.w ≤ s.q)
 value_most s j p h is =
-    let a = value_fits s.n 1 s.planes.items (from_stack s) j p h is in
+    let a = value_fits s.n 1 (planes_of s) (from_stack s) j p h is in
     let b = le-mul_of_pos_right p.w (plane_pos s.n (code p.code) (is_plane s.n p (plane_cells s j p h is))) in
     (omega (arith, a, s.levels), omega (arith, a, b, s.levels))
 
@@ -116,16 +116,16 @@ module _ (q : ℕ) (ps : List Plane) (j : ℕ) (p : Plane) (h : j < length ps) (
 pub decoded_all : (q j : ℕ) (ps : List Plane) (x : List ℕ) → length ps ≤ j → decode_from q j (drop j ps) x ≡ given x
 decoded_all q j ps x h = rw (drop_of_length-le ps h) refl
 
-decodes : (s : Stack) (y : List ℕ) → decode_planes (levels (stack s)) 1 0 (stack s).planes y ≡ decode_from s.q 0 s.planes.items y
-decodes s y = rw (← s.levels) (sym (decode_is s.n s.q 1 s.planes.items (from_stack s) 0 y))
+decodes : (s : Stack) (y : List ℕ) → decode_planes (levels (stack s)) 1 0 (stack s).planes y ≡ decode_from s.q 0 (planes_of s) y
+decodes s y = rw (← s.levels) (sym (decode_is s.n s.q 1 (planes_of s) (from_stack s) 0 y))
 
 module _ (s : Stack) (y out : List ℕ) where
-  pub refused_in : (j : ℕ) → decode_from s.q 0 s.planes.items y ≡ refused_at 11 j
+  pub refused_in : (j : ℕ) → decode_from s.q 0 (planes_of s) y ≡ refused_at 11 j
       → leaves (refused_at 11 j) out ≡ result (decode_word (stack s) y) out
   unfolding decode_word
   refused_in j e = let f = decodes s y ∙ e in rw f refl
 
-  pub given_by : (x : List ℕ) (k : ℕ) → decode_from s.q 0 s.planes.items y ≡ given x → k ≡ distance x y
+  pub given_by : (x : List ℕ) (k : ℕ) → decode_from s.q 0 (planes_of s) y ≡ given x → k ≡ distance x y
       → leaves (given k) x ≡ result (decode_word (stack s) y) out
   unfolding decode_word
   given_by x k e g = let f = decodes s y ∙ e in rw (f, g) refl

@@ -72,7 +72,7 @@ pub fn decode(stack: &Stack, word: &[u8], out: &mut [u8]) -> Result<usize, Refus
     let n = stack.n;
     let mut levels = [0u8; 64];
     levels[..n].copy_from_slice(word);
-    for (j, plane) in stack.planes.iter().enumerate() {
+    for (j, plane) in stack.planes().iter().enumerate() {
         let Some(found) = plane_pattern(plane, &levels[..n]) else {
             return Err(Refusal::NoPatternInPlane(j));
         };

@@ -11,11 +11,11 @@ use Rattle.opening.specs.Viewed.{code}
 use Rattle.stack_opening.specs.declared.plane.Plane.{Plane}
 use Rattle.stack_opening.specs.Planes.{as_codes, place_values}
 
-product_snoc : (ps : List codes.Code) (p : codes.Code) → product (ps ++ p ∷ []) ≡ product ps * p.M
+pub product_snoc : (ps : List codes.Code) (p : codes.Code) → product (ps ++ p ∷ []) ≡ product ps * p.M
 product_snoc [] p = grind arith
 product_snoc (x ∷ ps) p = grind (arith, product_snoc ps p)
 
-length_snoc : (ps : List codes.Code) (p : codes.Code) → message_length (ps ++ p ∷ []) ≡ message_length ps + data_cells p
+pub length_snoc : (ps : List codes.Code) (p : codes.Code) → message_length (ps ++ p ∷ []) ≡ message_length ps + data_cells p
 length_snoc [] p = omega arith
 length_snoc (x ∷ ps) p = omega (arith, length_snoc ps p)
 

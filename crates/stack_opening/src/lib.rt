@@ -1,36 +1,36 @@
 // Opening a stack's description: from its bytes to a stack as one value, with its planes, or to a refusal.
 #![tactic(auto)]
 
-ghost use Rattle.std.specs.Prelude.{◌≡◌, ◌≤◌, map, All, IsTrue};
+ghost use Rattle.std.specs.Prelude.{◌≡◌, ◌≤◌, map, take, All, IsTrue};
 ghost use Rattle.definitions.specs.Stacks.{product};
 ghost use Rattle.definitions.specs.StackMessages.{message_length};
 ghost use Rattle.definitions.specs.StackOperations.{stack_in_range, open_stack};
 ghost use Rattle.stack_opening.specs.Planes.{as_codes, place_values};
 
 use answers::Refusal;
-use arrayvec::ArrayVec;
-use plane::open_plane;
 
 mod plane;
 
-pub use plane::Plane;
+pub use plane::{Plane, open_plane};
 
 // The most levels of a stack.
 const MOST_LEVELS: usize = 64;
 
-// An opened stack: its cells, its planes, its levels and the symbols of a message. It is lent and never copied, so that it needs no Copy, which
-// an ArrayVec has not.
-#[derive(Drop)]
+// An opened stack: its cells, its planes, its levels and the symbols of a message. The planes are the first m of six: an array with their number,
+// since an ArrayVec is not Copy.
+#[derive(Clone, Copy)]
 pub struct Stack<'a> {
     pub n: usize,
+    pub m: usize,
     pub q: usize,
     pub symbols: usize,
-    pub planes: ArrayVec<Plane<'a>, 6>,
+    pub all: [Plane<'a>; 6],
     pub ghost size: { (1 ≤ n) × (n ≤ 64) × (q ≤ 64) },
-    pub ghost each: { All (λ p. p.code.n ≡ n) planes.items },
-    pub ghost levels: { q ≡ product (as_codes planes.items) },
-    pub ghost message: { symbols ≡ message_length (as_codes planes.items) },
-    pub ghost values: { map (λ p. p.w) planes.items ≡ place_values 1 (as_codes planes.items) },
+    pub ghost count: { m ≤ 6 },
+    pub ghost each: { All (λ p. p.code.n ≡ n) (take m all) },
+    pub ghost levels: { q ≡ product (as_codes (take m all)) },
+    pub ghost message: { symbols ≡ message_length (as_codes (take m all)) },
+    pub ghost values: { map (λ p. p.w) (take m all) ≡ place_values 1 (as_codes (take m all)) },
 }
 
 // The ranges of a stack's cells and planes.
@@ -42,7 +42,7 @@ fn stack_in_range(n: usize, m: usize) -> bool
 }
 
 impl<'a> Stack<'a> {
-    ghost use Rattle.stack_opening.specs.Viewed.{opened_as};
+    ghost use Rattle.stack_opening.specs.Viewed.{planes_of, opened_as};
 
     // Open a stack's description: its cells and planes, then each plane. The answer is the first refusal whose case holds.
     #[tactic(auto, unfolding(definitions::specs::StackOperations::open_stack))]
@@ -58,12 +58,12 @@ impl<'a> Stack<'a> {
             return Err(Refusal::OutOfRange);
         }
         let mut rest = &body[2..];
-        let mut planes = ArrayVec::new();
+        let mut all: [Plane; 6] = Default::default();
         let mut q = 1;
         let mut symbols = 0;
-        for _ in 0..m {
+        for j in 0..m {
             let code = open_plane(n, rest)?;
-            planes.push(Plane { code, w: q });
+            all[j] = Plane { code, w: q };
             q *= code.m;
             symbols += n - code.r;
             rest = &rest[3 + code.matrix.len()..];
@@ -76,9 +76,17 @@ impl<'a> Stack<'a> {
         }
         Ok(Stack {
             n,
+            m,
             q,
             symbols,
-            planes,
+            all,
         })
+    }
+
+    // The planes.
+    pub fn planes(&self) -> &[Plane<'a>]
+        ensures { result.now ≡ planes_of self.now }
+    {
+        &self.all[..self.m]
     }
 }

@@ -15,7 +15,7 @@ pub struct Plane<'a> {
     pub ghost low: { 1 ≤ w },
 }
 
-// A plane of one cell: what an ArrayVec holds where no plane is yet.
+// A plane of one cell: what a stack holds where no plane is.
 impl Default for Plane<'_> {
     #[tactic(auto, unfolding(definitions::specs::Patterns::pattern_count))]
     fn default() -> Self {

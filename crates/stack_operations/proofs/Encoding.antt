@@ -20,11 +20,11 @@ use Rattle.stack_theorems.proofs.Codewords.{digits_test}
 use Rattle.stack_theorems.proofs.Messages.{stack_messages_codewords}
 use Rattle.opening.specs.Viewed.{code}
 use Rattle.stack_opening.specs.Planes.{as_codes}
-use Rattle.stack_opening.specs.Viewed.{stack}
+use Rattle.stack_opening.specs.Viewed.{planes_of, stack}
 use Rattle.stack_opening.specs.declared.Stack.{Stack}
 use Rattle.stack_opening.specs.declared.plane.Plane.{Plane}
 use Rattle.stack_operations.specs.Parts.{level_sum}
-use Rattle.stack_operations.proofs.Planes.{From, here, value, later, are_planes, from_stack, plane_cells, stack_planes}
+use Rattle.stack_operations.proofs.Planes.{From, here, value, later, are_planes, from_stack, stack_planes}
 
 -- a plane's codeword from the digits s
 module _ (p : Code) (s : List ℕ) (pos : 0 < p.M) (below : p.r ≤ p.n) (long : data_cells p ≤ length s) where
@@ -94,9 +94,9 @@ module _ (x : Stack) (s : List ℕ) where
   fits_message long fits = record { long = long ∙ x.message; below = (digits_test (stack x).planes s).0 (rw fits tt) }
 
   module _ (m : StackMessage (stack x) s) where
-    pub level_is : (i : ℕ) → i < x.n → level_sum i x.planes.items s ≡ at (encode_word (stack x) s) i
+    pub level_is : (i : ℕ) → i < x.n → level_sum i (planes_of x) s ≡ at (encode_word (stack x) s) i
     unfolding encode_word
-    level_is i h = sum_is x.n i h 1 x.planes.items s (from_stack x) m.long
+    level_is i h = sum_is x.n i h 1 (planes_of x) s (from_stack x) m.long
 
     pub long_word : length (encode_word (stack x) s) ≡ x.n
     unfolding encode_word
@@ -108,6 +108,3 @@ module _ (x : Stack) (s : List ℕ) where
         let b : at (encode_word (stack x) s) i < levels (stack x)
         = each_at (λ v. v < levels (stack x)) (encode_word (stack x) s) c.bounded i (omega (arith, long_word)) in
         omega (arith, b, x.levels, x.size)
-
--- what the level of one cell rests on
-pub ruleset level_steps = (common_steps, sum_next, level_is, level_small, plane_cells)

@@ -21,7 +21,7 @@ use Rattle.stack_operations.proofs.Messages.{digits_decide, codeword_decides}
 use Rattle.opening.specs.Viewed.{code}
 use Rattle.stack_opening.specs.declared.plane.Plane.{Plane}
 use Rattle.stack_opening.specs.declared.Stack.{Stack}
-use Rattle.stack_opening.specs.Viewed.{stack}
+use Rattle.stack_opening.specs.Viewed.{planes_of, stack}
 use Rattle.stack_opening.specs.Planes.{as_codes, place_values}
 use Rattle.stack_operations.specs.Parts.{zero_digits, parts}
 
@@ -120,7 +120,7 @@ module _ (n : ℕ) (c : List ℕ) (ps : List Plane) (at : ℕ) (out : List ℕ) 
       sym (d ∙ rw e (append-nil (take at out)) ∙ take_all at out all)
 
 -- an opened stack
-pub from_stack : (s : Stack) → From s.n 1 s.planes.items
+pub from_stack : (s : Stack) → From s.n 1 (planes_of s)
 from_stack s = record { each = grind (arith, common_steps, s.each); values = s.values }
 
 -- an item of a slice of planes
@@ -128,21 +128,21 @@ pub item_of : (ps slice : List Plane) → slice ≡ ps → (j : ℕ) (p : Plane)
 item_of ps slice e j p h is = rw (← e) (h, is)
 
 -- its planes have its cells
-pub plane_cells : (s : Stack) (j : ℕ) (p : Plane) → j < length s.planes.items → p ≡ get_or s.planes.items j p → p.code.n ≡ s.n
+pub plane_cells : (s : Stack) (j : ℕ) (p : Plane) → j < length (planes_of s) → p ≡ get_or (planes_of s) j p → p.code.n ≡ s.n
 plane_cells s j p h is = ap (λ (p : Plane). p.code.n) is ∙ (from_stack s).each j p h
 
 pub stack_planes : (s : Stack) → ArePlanes s.n (stack s).planes
-stack_planes s = are_planes s.n 1 s.planes.items (from_stack s)
+stack_planes s = are_planes s.n 1 (planes_of s) (from_stack s)
 
 pub codeword_by_digits : (s : Stack) (c : List ℕ) → length c ≡ s.n → all_below s.q c ≡ true
-    → list_all (zero_digits c) s.planes.items ≡ is_stack_codeword (stack s) c
+    → list_all (zero_digits c) (planes_of s) ≡ is_stack_codeword (stack s) c
 codeword_by_digits s c e h =
-    zeros_decide s.n c e 1 s.planes.items (from_stack s) ∙ sym (codeword_decides (stack s) c e (rw (← s.levels) h))
+    zeros_decide s.n c e 1 (planes_of s) (from_stack s) ∙ sym (codeword_decides (stack s) c e (rw (← s.levels) h))
 
 accepted_planes : (w : ℕ) (ps : List Plane) → list_all (λ p. accepted (code p.code)) ps ≡ all_planes (λ w p. accepted p) w (as_codes ps)
 accepted_planes w [] = refl
 accepted_planes w (p ∷ ps) = grind (arith, accepted_planes (w * p.code.m) ps)
 
-pub accepted_is : (s : Stack) → list_all (λ p. accepted (code p.code)) s.planes.items ≡ accepted_stack (stack s)
+pub accepted_is : (s : Stack) → list_all (λ p. accepted (code p.code)) (planes_of s) ≡ accepted_stack (stack s)
 unfolding accepted_stack
-accepted_is s = accepted_planes 1 s.planes.items
+accepted_is s = accepted_planes 1 (planes_of s)

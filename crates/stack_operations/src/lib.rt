@@ -1,13 +1,13 @@
 // What the operations on stacks do besides searching: acceptance, the tests of words and messages, and what recover and encode store.
 #![tactic(auto)]
 
-ghost use Rattle.std.specs.Prelude.{◌≡◌, true, ◌-◌, ◌/◌, ◌%◌, ◌<◌, ◌≤◌, length, All};
+ghost use Rattle.std.specs.Prelude.{◌≡◌, true, ◌-◌, ◌/◌, ◌%◌, ℕ, ◌+◌, ◌*◌, ◌<◌, ◌≤◌, length, All};
 ghost use Rattle.std.specs.List.{list_all};
 ghost use Rattle.definitions.specs.Words.{at, all_below};
 ghost use Rattle.definitions.specs.Acceptance.{accepted};
 ghost use Rattle.definitions.specs.Stacks.{digits};
 ghost use Rattle.definitions.specs.StackCodewords.{accepted_stack, is_stack_codeword};
-ghost use Rattle.definitions.specs.StackMessages.{StackMessage, digits_fit, stack_message, encode_plane, encode_word};
+ghost use Rattle.definitions.specs.StackMessages.{digits_fit, stack_message, encode_plane, encode_word};
 ghost use Rattle.opening.specs.Viewed.{code as the_code};
 ghost use Rattle.stack_opening.specs.Viewed.{stack as the_stack};
 ghost use Rattle.stack_operations.specs.Parts.{zero_digits};
@@ -29,7 +29,7 @@ fn planes_accepted(planes: &[Plane<'_>]) -> bool
 pub fn is_accepted(stack: &Stack) -> bool
     ensures { result ≡ accepted_stack (the_stack stack.now) }
 {
-    planes_accepted(&stack.planes)
+    planes_accepted(stack.planes())
 }
 
 // A level's digit of place value w below c.
@@ -81,7 +81,7 @@ pub fn is_codeword(stack: &Stack, word: &[u8]) -> bool
     requires levels { all_below stack.now.q word.now ≡ true }
     ensures { result ≡ is_stack_codeword (the_stack stack.now) word.now }
 {
-    digits_are_codewords(&stack.planes, word)
+    digits_are_codewords(stack.planes(), word)
 }
 
 // The message that a word carries, plane by plane.
@@ -92,7 +92,7 @@ pub fn store_message(stack: &Stack, word: &[u8], out: &mut [u8])
 {
     // A place runs along: with `split_at_mut` in the loop nothing is known at its end of what stands in `out`, so the proof does not close.
     let mut at = 0;
-    for plane in stack.planes.iter() {
+    for plane in stack.planes() {
         let k = stack.n - plane.code.r;
         out[at..at + k].copy_from_slice(&plane_digits(plane, word)[..k]);
         at += k;
@@ -105,7 +105,7 @@ pub fn digits_fit(stack: &Stack, message: &[u8]) -> bool
     ensures { result ≡ digits_fit (the_stack stack.now).planes message.now }
 {
     let mut left = message;
-    for plane in stack.planes.iter() {
+    for plane in stack.planes() {
         let (symbols, others) = left.split_at(stack.n - plane.code.r);
         if !byte_helpers::all_below(plane.code.m, symbols) {
             return false;
@@ -127,31 +127,32 @@ fn plane_digit(code: &Code, symbols: &[u8], i: usize) -> usize
     code.filling(symbols, i - k)
 }
 
-// Level i + 1 of the codeword that carries a message.
-#[tactic(auto, using(crate::proofs::Encoding::level_steps))]
-fn level(stack: &Stack, message: &[u8], i: usize) -> usize
-    requires message { StackMessage (the_stack stack.now) message.now }
-    requires cell { i < stack.now.n }
-    ensures { (result ≡ at (encode_word (the_stack stack.now) message.now) i) × (result < 64) }
+// The digits of a plane's codeword, each times the plane's place value, are added to the levels so far.
+fn add_digits(plane: &Plane, symbols: &[u8], levels: &mut [u8])
+    requires symbols { length symbols.now ≡ plane.now.code.n - plane.now.code.r }
+    requires cells { length levels.old ≡ plane.now.code.n }
+    requires small { (i : ℕ) → i < plane.now.code.n
+        → at levels.old i + at (encode_plane (the_code plane.now.code) symbols.now) i * plane.now.w < 64 }
+    ensures sum { (i : ℕ) → i < plane.now.code.n
+        → at levels.new i ≡ at levels.old i + at (encode_plane (the_code plane.now.code) symbols.now) i * plane.now.w }
 {
-    let mut rest = message;
-    let mut sum = 0;
-    for plane in stack.planes.iter() {
-        let (symbols, others) = rest.split_at(stack.n - plane.code.r);
-        sum += plane_digit(&plane.code, symbols, i) * plane.w;
-        rest = others;
+    for (i, level) in levels.iter_mut().enumerate() {
+        *level = (usize::from(*level) + plane_digit(&plane.code, symbols, i) * plane.w) as u8;
     }
-    sum
 }
 
-// The codeword that carries a message.
+// The codeword that carries a message. Plane by plane: cell by cell, with the planes inside, it took up to 1.4 times as long.
 pub fn store_codeword(stack: &Stack, message: &[u8], out: &mut [u8])
     requires fits { digits_fit (the_stack stack.now).planes message.now ≡ true }
     requires long { length message.now ≡ stack.now.symbols }
     requires room { length out.old ≡ stack.now.n }
     ensures { out.new ≡ encode_word (the_stack stack.now) message.now }
 {
-    for (i, cell) in out.iter_mut().enumerate() {
-        *cell = level(stack, message, i) as u8;
+    out.fill(0);
+    let mut rest = message;
+    for plane in stack.planes().iter() {
+        let (symbols, others) = rest.split_at(stack.n - plane.code.r);
+        add_digits(plane, symbols, out);
+        rest = others;
     }
 }
