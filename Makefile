@@ -19,7 +19,7 @@ target/bin/cartlist:
 
 # What is tested from outside: names in the documents, the boundary from Rust, C and Pascal, the sample images.
 .PHONY: outside
-outside: names golay_table evidence samples languages
+outside: names golay_table needs evidence samples languages
 
 # make names looks for each file, theorem, clause and edit that docs/PROMISES.md names.
 .PHONY: names
@@ -44,6 +44,11 @@ library: $(LIBRARY)
 $(LIBRARY):
 	tests/library.sh $(GATE)
 	mkdir -p build
+
+# make needs looks that the library wants memcpy and memset from outside, and nothing else.
+.PHONY: needs
+needs: $(LIBRARY)
+	test "$$(nm -u $(LIBRARY) | awk '$$1 == "U" { print $$2 }' | sort -u | xargs)" = "memcpy memset"
 
 RUST = rustc --edition 2021 -L native=target/staticlib -l static=fingerkerf
 

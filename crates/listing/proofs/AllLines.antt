@@ -9,8 +9,7 @@ use lib.Dec.{eqb}
 use lib.ListN.{length, length-append, drop, replicate, take}
 use lib.Seq.{take-append_seam}
 use borrow.Author.Tests.{le-leb, eq-eqb, ne_eqb}
-use Rattle.std.specs.Prelude.{Ok, Err}
-use Rattle.std.specs.Prelude.{Result as StdResult}
+use Rattle.std.specs.Prelude.{Result as StdResult, Ok, Err}
 use Rattle.definitions.specs.Words.{at}
 use Rattle.definitions.specs.Answers.{given, refused, Result}
 use Rattle.definitions.specs.Images.{entry_at, body_of, reference_of, entry_numbers, is_row, check_image, RowRecord, recorded, decode_row}

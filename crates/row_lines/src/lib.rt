@@ -34,6 +34,7 @@ impl<'a> Lines<'a> {
         self.place += 1;
     }
 
+    // Each line ends with it.
     fn end(&mut self)
         requires { Room self.old 1 }
         ensures { Adds self.old newline self.new }
@@ -116,7 +117,7 @@ impl<'a> Lines<'a> {
         self.text(b"row ");
         self.decimal(entry);
         self.outcome(outcome, levels);
-        self.text(b"\n");
+        self.end();
     }
 
     // The line of a refused image.

@@ -1,6 +1,5 @@
-use Rattle.std.proofs.Common.{◌≡◌, Ok, arith, sym, subst, OnOk, List, ℕ}
+use Rattle.std.proofs.Common.{arith}
 use Rattle.std.proofs.lemmas.Grind.{common_steps}
-use Rattle.std.specs.Result.{IsOk}
 use Rattle.listing.proofs.AllLines.{is_given, text_first}
 use Rattle.listing.proofs.write_lines.Goals as goal
 

@@ -4,8 +4,8 @@ use Rattle.row_lines.proofs.Putting.{adds_then}
 use Rattle.row_lines.proofs.Texts.{decimal-short, outcome-short}
 use Rattle.row_lines.proofs.Lines.row.Goals as goal
 
-pub text-requires-2 : goal.text-requires-2
-text-requires-2 c = omega (
+pub end-requires : goal.end-requires
+end-requires c = omega (
   arith,
   decimal-short c.args.entry,
   outcome-short (outcome_as c.args.outcome) c.args.levels.now c.requires.small.1,
@@ -13,4 +13,4 @@ text-requires-2 c = omega (
 )
 
 pub returns : goal.returns
-returns c = adds_then (adds_then (adds_then c.text.ensures c.decimal.ensures) c.outcome.ensures) c.text-2.ensures
+returns c = adds_then (adds_then (adds_then c.text.ensures c.decimal.ensures) c.outcome.ensures) c.end.ensures
