@@ -1,5 +1,5 @@
 // Are all keys different? Each finds its slot in the digital search tree of its bucket. Without the trees a code whose keys share one bucket
-// would cost the square of their number; in a tree no key is further from its bucket than it has bits.
+// would cost the square of their number; in a tree a key is at most some twice as many steps from its bucket as it has bits.
 ghost use Rattle.std.specs.Prelude.{◌≡◌, map, ◌<◌, ◌≤◌, length};
 ghost use Rattle.definitions.specs.Acceptance.{all_different};
 ghost use Rattle.acceptance.specs.Keys.{word_of};

@@ -83,7 +83,7 @@ impl<'a> Stack<'a> {
         })
     }
 
-    // The planes.
+    // The planes that were opened, without the blank ones behind them.
     pub fn planes(&self) -> &[Plane<'a>]
         ensures { result.now ≡ planes_of self.now }
     {
